@@ -1,0 +1,6 @@
+pub mod Ends
+pub mod Trace
+pub mod Reading
+pub mod CursorView
+pub mod Writing
+pub mod OutView

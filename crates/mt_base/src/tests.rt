@@ -1,0 +1,56 @@
+use super::*;
+use std::test::*;
+
+#[test]
+fn reads_each_field(rt: HostRuntime) -> Result<(), Fail> {
+    let bytes = [
+        0x01, 0x02, 0x03, 0x04, 0x05, 0x06, 0x07, 0x08, 0x09, 0x0a, 0x0b, 0x0c, 0x0d, 0x0e, 0x0f,
+        0x10, 0x11, 0x12,
+    ];
+    let mut from = Cursor::new(&bytes);
+    assert_eq!(rt; from.u8()?, 0x01);
+    assert_eq!(rt; from.u16_be()?, 0x0203);
+    assert_eq!(rt; from.u32_be()?, 0x0405_0607);
+    assert_eq!(rt; from.u16_le()?, 0x0908);
+    assert_eq!(rt; from.u24_le()?, 0x000c_0b0a);
+    assert_eq!(rt; from.u32_le()?, 0x100f_0e0d);
+    assert_eq!(rt; from.at(), 16);
+    assert_eq!(rt; from.take(3), Err(Short { at: 16, need: 3 }));
+    assert_eq!(rt; from.rest(), [0x11, 0x12].as_slice());
+    assert_eq!(rt; from.take(2)?, [0x11, 0x12].as_slice());
+    assert_eq!(rt; from.u8(), Err(Short { at: 18, need: 1 }));
+    Ok(())
+}
+
+#[test]
+fn writes_each_field(rt: HostRuntime) -> Result<(), Fail> {
+    let mut bytes = [0xff; 18];
+    let mut out = Out::new(&mut bytes);
+    out.put_u8(0x01)?;
+    out.put_u16_be(0x0203)?;
+    out.put_u32_be(0x0405_0607)?;
+    out.put_u16_le(0x0908)?;
+    out.put_u24_le(0x000c_0b0a)?;
+    out.put_u32_le(0x100f_0e0d)?;
+    assert_eq!(rt; out.put(&[1, 2, 3]), Err(NoRoom { at: 16, need: 3 }));
+    out.put(&[0x11])?;
+    assert_eq!(rt; out.at(), 17);
+    assert_eq!(rt;
+        bytes.as_slice(),
+        [
+            0x01, 0x02, 0x03, 0x04, 0x05, 0x06, 0x07, 0x08, 0x09, 0x0a, 0x0b, 0x0c, 0x0d, 0x0e,
+            0x0f, 0x10, 0x11, 0xff,
+        ]
+        .as_slice()
+    );
+    Ok(())
+}
+
+#[test]
+fn the_other_end(rt: HostRuntime) {
+    assert_eq!(rt; Role::Server.other(), Role::Client);
+    assert_eq!(rt; Role::Client.other(), Role::Server);
+    assert!(rt; Kind::Reliable != Kind::Lossy);
+    assert_eq!(rt; NoMemory, NoMemory);
+    filling();
+}
