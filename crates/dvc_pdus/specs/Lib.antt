@@ -1,1 +1,3 @@
 pub mod Value
+pub mod Reading
+pub mod Views

@@ -2,6 +2,11 @@
 //! borrowed bytes.
 #![tactic(auto)]
 
+mod command;
 mod pdu;
+mod read;
+mod write;
 
 pub use pdu::{DvcPdu, DvcRefusal};
+pub use read::read_dvc;
+pub use write::write_dvc;
