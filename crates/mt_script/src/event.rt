@@ -1,4 +1,4 @@
-//! The events of a script, and why bytes are no script.
+//! The events of a script, its lines, and why bytes are no script.
 
 use crate::text::Text;
 use mt_base::Role;
@@ -12,6 +12,13 @@ pub enum Event {
     Send { side: Role, id: u32, message: Text },
     /// `main SIDE all`: all main stream bytes that this end wrote reach the other end.
     Main { side: Role },
+}
+
+/// An event, and the number of its line in the script, counted from 1.
+#[derive(Drop)]
+pub struct Line {
+    pub event: Event,
+    pub number: u64,
 }
 
 /// Why bytes are no script. Lines are counted from 1.

@@ -6,7 +6,9 @@
 #![tactic(auto)]
 
 mod event;
+mod script;
 mod text;
 
-pub use event::{Event, ScriptRefusal};
+pub use event::{Event, Line, ScriptRefusal};
+pub use script::{Script, read_script};
 pub use text::Text;
