@@ -34,7 +34,23 @@ pub fn read_file<F: FileStore>(
     ensures same { F.told files.new ≡ F.told files.old }
     ensures names { (k : ℕ) × (F.named files.new ≡ added (F.named files.old) (replicate k name.now)) }
 {
-    Err(ReadFault::NoMemory)
+    let mut bytes = Vec::new(alloc);
+    let mut piece = [0u8; PIECE];
+    loop {
+        let length = bytes.len() as u64;
+        let Ok(count) = files.read(name, length, &mut piece) else {
+            return Err(ReadFault::Failed);
+        };
+        if count == 0 {
+            return Ok(bytes);
+        }
+        if count as u64 > limit - length {
+            return Err(ReadFault::TooLong);
+        }
+        let Ok(()) = bytes.extend_from_slice(&piece[..count]) else {
+            return Err(ReadFault::NoMemory);
+        };
+    }
 }
 
 /// Writes all bytes, in order. Where it fails, a prefix of them was written.
