@@ -1,6 +1,6 @@
 -- Lemmas on bytes that are read and written piece by piece.
 use Rattle.std.proofs.Common.{◌≡◌, ℕ, ◌+◌, ◌-◌, ◌<◌, ◌≤◌, inl, inr, List, ◌++◌, length, take, drop, replicate, Option, Some, None, refl, sym, ap, ◌∙◌, append_assoc, arith, length-drop}
-use Rattle.std.proofs.lemmas.List.{drop-drop, replicate-append-replicate}
+use Rattle.std.proofs.lemmas.List.{drop-drop}
 use Rattle.std.proofs.Math.Seq.{take-add, take-length}
 use Rattle.mt_outside.specs.Faults.{Rose}
 use Rattle.mt_outside.specs.Told.{added}
@@ -16,10 +16,10 @@ pub added-added : {A : Type 0} (told : Option (List A)) (one two : List A) → a
 added-added None one two = refl
 added-added (Some list) one two = ap Some (append_assoc list one two)
 
--- copies of a name that are told, and then more of them
-pub names_more : (told next last : Option (List (List ℕ))) (name : List ℕ) (m k : ℕ) → next ≡ added told (replicate m name) → last ≡ added next (replicate k name) → last ≡ added told (replicate (m + k) name)
-names_more told next last name m k before now =
-    now ∙ ap (λ t. added t (replicate k name)) before ∙ added-added told (replicate m name) (replicate k name) ∙ ap (added told) (replicate-append-replicate m k name)
+-- copies of a name that are told, and then one more
+pub names_more : (told next last : Option (List (List ℕ))) (name : List ℕ) (k : ℕ) → next ≡ added told (replicate k name) → last ≡ added next (name ∷ []) → last ≡ added told (replicate (k + 1) name)
+names_more told next last name k before now =
+    now ∙ ap (λ t. added t (name ∷ [])) before ∙ added-added told (replicate k name) (name ∷ []) ∙ ap (added told) (sym (replicate_next k name))
 
 -- one more piece of bytes is written
 pub writes_on : (start told next : Option (List ℕ)) (bytes rest left : List ℕ) (n : ℕ)

@@ -1,6 +1,6 @@
 //! A store of files.
 
-ghost use Rattle.std.specs.Prelude.{◌≡◌, ℕ, ◌≤◌, List, [], ◌∷◌, Option, length, take, replicate, IfOk, IsErr, OnOk, OnErr};
+ghost use Rattle.std.specs.Prelude.{◌≡◌, ℕ, ◌≤◌, List, [], ◌∷◌, Option, length, take, IfOk, IsErr, OnOk, OnErr};
 ghost use Rattle.std.specs.Option.{option_map};
 ghost use Rattle.mt_outside.specs.Faults.{Rose};
 ghost use Rattle.mt_outside.specs.Told.{added};
@@ -12,8 +12,7 @@ use crate::failed::Failed;
 ///
 /// The clauses speak of three meanings: `faults` counts the faults so far, `told` is what the store
 /// tells of its files and `named` of the names that its calls were given, in order. A store that
-/// tells nothing keeps the clauses on `told` and `named` for nothing. A failed call for whose name
-/// no memory is found doesn't tell it.
+/// tells nothing keeps the clauses on `told` and `named` for nothing.
 pub trait FileStore {
     ghost faults: { Self → ℕ };
 
@@ -31,8 +30,7 @@ pub trait FileStore {
         ensures bytes { (content : List ℕ) → Holds (told self.old) name.now content → IfOk result (λ n. Reads content at n out.new) }
         ensures missing { Lacks (told self.old) name.now → IsErr result }
         ensures same { told self.new ≡ told self.old }
-        ensures name { OnOk result (named self.new ≡ added (named self.old) (name.now ∷ [])) }
-        ensures name_or_none { (k : ℕ) × (k ≤ 1) × (named self.new ≡ added (named self.old) (replicate k name.now)) };
+        ensures name { named self.new ≡ added (named self.old) (name.now ∷ []) };
 
     /// Makes an empty file in place of what was there. Where it fails no file changes.
     fn create(&mut self, name: &str) -> Result<(), Failed>
@@ -40,8 +38,7 @@ pub trait FileStore {
         ensures cause { OnErr result (Rose (faults self.old) (faults self.new)) }
         ensures emptied { OnOk result (told self.new ≡ option_map (emptied name.now) (told self.old)) }
         ensures same { OnErr result (told self.new ≡ told self.old) }
-        ensures name { OnOk result (named self.new ≡ added (named self.old) (name.now ∷ [])) }
-        ensures name_or_none { (k : ℕ) × (k ≤ 1) × (named self.new ≡ added (named self.old) (replicate k name.now)) };
+        ensures name { named self.new ≡ added (named self.old) (name.now ∷ []) };
 
     /// Writes bytes at the end of the file. Where it fails, a prefix of them may have been written.
     /// A name without a file is `Failed`. No other file changes.
@@ -51,6 +48,5 @@ pub trait FileStore {
         ensures grown { OnOk result (told self.new ≡ option_map (grown name.now bytes.now) (told self.old)) }
         ensures prefix { (k : ℕ) × (told self.new ≡ option_map (grown name.now (take k bytes.now)) (told self.old)) }
         ensures missing { Lacks (told self.old) name.now → IsErr result }
-        ensures name { OnOk result (named self.new ≡ added (named self.old) (name.now ∷ [])) }
-        ensures name_or_none { (k : ℕ) × (k ≤ 1) × (named self.new ≡ added (named self.old) (replicate k name.now)) };
+        ensures name { named self.new ≡ added (named self.old) (name.now ∷ []) };
 }

@@ -9,6 +9,7 @@
 
 mod failed;
 mod files;
+mod names;
 mod sink;
 mod whole;
 
