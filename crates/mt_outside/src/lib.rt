@@ -8,12 +8,16 @@
 #![tactic(auto)]
 
 mod failed;
+mod faults;
 mod files;
+mod memory_sink;
 mod names;
+mod plan;
 mod sink;
 mod whole;
 
 pub use failed::{Failed, ReadFault};
 pub use files::FileStore;
+pub use memory_sink::MemorySink;
 pub use sink::Sink;
 pub use whole::{read_file, write_all};
