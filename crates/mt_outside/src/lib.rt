@@ -13,6 +13,7 @@ mod files;
 mod memory_sink;
 mod names;
 mod plan;
+mod shelf;
 mod sink;
 mod whole;
 
