@@ -1,10 +1,11 @@
 -- Lemmas on a list of files by name.
-use Rattle.std.proofs.Common.{◌≡◌, ℕ, ◌+◌, suc, Bool, true, false, cond, List, [], ◌∷◌, ◌++◌, get_or, set, map, Option, Some, None, refl, sym, ap, ◌∙◌, subst, arith, inl, inr}
+use Rattle.std.proofs.Common.{append-nil, option_map, ◌≡◌, ℕ, ◌+◌, suc, Bool, true, false, cond, List, [], ◌∷◌, ◌++◌, get_or, set, map, Option, Some, None, refl, sym, ap, ◌∙◌, subst, arith, inl, inr}
+use Rattle.std.proofs.Math.Path.{fun_ext}
 use Rattle.std.specs.List.{position_from}
 use Rattle.std.specs.Str.{bytes_eq}
 use Rattle.std.proofs.lemmas.Bool.{cases_Bool, both_ways}
 use Rattle.std.proofs.lemmas.Slice.Eq.{bytes_eq-Decides}
-use Rattle.mt_outside.specs.Files.{file_of, changed, replaced}
+use Rattle.mt_outside.specs.Files.{Contents, grown, file_of, changed, replaced}
 
 -- texts that the test finds equal are one, and a text is equal to itself
 pub same : (a b : List ℕ) → bytes_eq a b ≡ true → a ≡ b
@@ -42,6 +43,12 @@ apart false false g x f never = refl
 in_place : (b : Bool) (g : Option (List ℕ) → Option (List ℕ)) (y x f : Option (List ℕ)) → y ≡ g x → cond b y f ≡ cond b (g (cond b x f)) (cond b x f)
 in_place true g y x f made = made
 in_place false g y x f made = refl
+
+-- nothing behind a file changes nothing
+nothing_more : (b : Bool) (f : Option (List ℕ)) → cond b (option_map (λ content. content ++ []) f) f ≡ f
+nothing_more true None = refl
+nothing_more true (Some content) = ap Some (append-nil content)
+nothing_more false f = refl
 
 -- where there is no file it isn't the first one either
 no_here : (b : Bool) (x : List ℕ) (f : Option (List ℕ)) → cond b (Some x) f ≡ None → (b ≡ false) × (f ≡ None)
@@ -94,3 +101,7 @@ module _ {X : Type 0} (shown : X → List ℕ × List ℕ) (name : List ℕ) whe
       let fails = no_here (bytes_eq (shown x).0 name) (shown x).1 (file_of (map shown xs) name) none in
       ap (λ r. cond (bytes_eq (shown x).0 other) (Some (shown x).1) r) (added_file y xs titled fails.1 other)
       ∙ apart (bytes_eq (shown x).0 other) (bytes_eq name other) (λ _. Some (shown y).1) (Some (shown x).1) f (never_both (shown x).0 name other fails.0)
+
+-- a file that grows by nothing is as it was
+pub grown_nothing : (name : List ℕ) (files : Contents) → grown name [] files ≡ files
+grown_nothing name files = fun_ext (λ other. nothing_more (bytes_eq name other) (files other))

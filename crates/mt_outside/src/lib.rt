@@ -10,15 +10,21 @@
 mod failed;
 mod faults;
 mod files;
+mod memory_files;
 mod memory_sink;
 mod names;
 mod plan;
+mod real_files;
+mod real_sink;
 mod shelf;
 mod sink;
 mod whole;
 
 pub use failed::{Failed, ReadFault};
 pub use files::FileStore;
+pub use memory_files::MemoryFiles;
 pub use memory_sink::MemorySink;
+pub use real_files::RealFiles;
+pub use real_sink::RealSink;
 pub use sink::Sink;
 pub use whole::{read_file, write_all};
