@@ -1,0 +1,35 @@
+-- One line in the loop over the lines of a script.
+use Rattle.std.proofs.Common.{◌≡◌, ℕ, List, ◌∷◌, Result, Ok, Err, refl, sym, ap, ◌∙◌}
+use Rattle.mt_base.specs.declared.kinds.Role.{Role}
+use Rattle.mt_base.specs.Trace.{Trace}
+use Rattle.mt_script.specs.declared.event.Line.{Line}
+use Rattle.mt_world.specs.declared.refusal.StepRefusal.{StepRefusal}
+use Rattle.mt_world.specs.declared.refusal.StepRefusal.TheVariants.{UnknownChannel, Refused, NoMemory}
+use Rattle.mt_world.specs.declared.world.World.{World}
+use Rattle.mt_world.specs.Acts.{Entry}
+use Rattle.mt_world.specs.Play.{start, play, played, Ending, RefusedAt}
+use Rattle.mt_world.specs.WorldView.{Stands, Steps}
+
+-- what a play goes on with after a line
+goes_on : Trace (Role × Entry) → Line → List Line → Result (Trace (Role × Entry)) StepRefusal → Trace (Role × Entry) × Ending
+goes_on w line rest r = elim r [ Ok v ↦ play v rest | Err cause ↦ (w, RefusedAt line.number cause) ]
+
+-- a line that was taken
+pub taken : (new : World) (w : Trace (Role × Entry)) (line : Line) (left rest all : List Line) (done : Unit {0}) → left ≡ line ∷ rest → play w left ≡ play start all
+    → Steps (Ok done) new w (played w line.event) → (v : Trace (Role × Entry)) × Stands new v × (play v rest ≡ play start all)
+unfolding goes_on
+taken new w line left rest all done is before s =
+    (s.0, s.2, sym (ap (goes_on w line rest) s.1) ∙ sym (ap (play w) is) ∙ before)
+
+-- a line that was refused
+ends : (w : Trace (Role × Entry)) (line : Line) (left rest all : List Line) (cause : StepRefusal) → left ≡ line ∷ rest → play w left ≡ play start all
+    → played w line.event ≡ Err cause → (v : Trace (Role × Entry)) × (play start all ≡ (v, RefusedAt line.number cause))
+unfolding goes_on
+ends w line left rest all cause is before s =
+    (w, sym before ∙ ap (play w) is ∙ ap (goes_on w line rest) s)
+
+pub refused : (new : World) (w : Trace (Role × Entry)) (line : Line) (left rest all : List Line) (cause : StepRefusal) → left ≡ line ∷ rest → play w left ≡ play start all
+    → ¬ (cause ≡ NoMemory) → Steps (Err cause) new w (played w line.event) → (v : Trace (Role × Entry)) × (play start all ≡ (v, RefusedAt line.number cause))
+refused new w line left rest all NoMemory is before some s = absurd (some refl)
+refused new w line left rest all UnknownChannel is before some s = ends w line left rest all UnknownChannel is before s.0
+refused new w line left rest all (Refused cause) is before some s = ends w line left rest all (Refused cause) is before s.0
