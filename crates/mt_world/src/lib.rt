@@ -9,10 +9,12 @@
 mod channel;
 mod end;
 mod frame;
+mod laws;
 mod refusal;
 mod side;
 mod world;
 
+pub use laws::net_is_safe;
 pub use mt_script::{Event, ScriptRefusal, Text};
 pub use refusal::{OpenRefusal, Refused, SendRefusal, StepRefusal};
 pub use world::World;
