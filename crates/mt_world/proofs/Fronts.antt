@@ -21,6 +21,12 @@ front-flat_map f xs ys h = (flat_map f h.0, ap (flat_map f) h.1 ∙ flat_map-app
 -- a front of a list, and a front of the rest behind it
 pub front-next : {A : Type 0} (n : ℕ) (xs ys : List A) → IsPrefixOf xs ys → IsPrefixOf (xs ++ take n (drop (length xs) ys)) ys
 front-next n xs ys h =
-    let rest : drop (length xs) ys ≡ h.0 = ap (drop (length xs)) h.1 ∙ drop_at xs h.0 (length xs) refl in
-    (drop n h.0, h.1 ∙ ap (λ x. xs ++ x) (sym (take-append-drop n h.0)) ∙ sym (append_assoc xs (take n h.0) (drop n h.0))
-      ∙ ap (λ x. xs ++ take n x ++ drop n h.0) (sym rest))
+    let rest : drop (length xs) ys ≡ h.0 = ap (drop (length xs)) h.1 ∙ drop_at xs h.0 (length xs) refl in (
+      drop n h.0,
+      h.1 ∙ ap (λ x. xs ++ x) (sym (take-append-drop n h.0)) ∙ sym (append_assoc xs (take n h.0) (drop n h.0))
+          ∙ ap (λ x. xs ++ take n x ++ drop n h.0) (sym rest),
+    )
+
+-- the same fronts under other names
+pub front-at : {A : Type 0} (xs vs ys ws : List A) → xs ≡ vs → ys ≡ ws → IsPrefixOf xs ys → IsPrefixOf vs ws
+front-at xs vs ys ws same also h = (h.0, sym also ∙ h.1 ∙ ap (λ x. x ++ h.0) same)

@@ -6,3 +6,7 @@ pub mod Sides
 pub mod Fronts
 pub mod Hearing
 pub mod Messages
+pub mod Outgoing
+pub mod Safety
+pub mod SpelledBytes
+pub mod PlayedNet
