@@ -10,6 +10,7 @@ mod channel;
 mod end;
 mod frame;
 mod refusal;
+mod report;
 mod side;
 mod world;
 
