@@ -11,6 +11,7 @@ mod end;
 mod frame;
 mod laws;
 mod refusal;
+mod report;
 mod side;
 mod world;
 
