@@ -18,6 +18,7 @@ use Rattle.mt_world.specs.declared.refusal.Refused.TheVariants as refused
 use Rattle.mt_world.specs.declared.refusal.StepRefusal.{StepRefusal}
 use Rattle.mt_world.specs.declared.refusal.StepRefusal.TheVariants as step
 use Rattle.mt_world.specs.Acts.{Entry, Act, Made, Opened, Sent, MainIn, MainOut, Took, past, names, is_ready, channel, unsent, waiting}
+use Rattle.mt_world.specs.Ends.{channel_limit}
 use Rattle.mt_world.specs.Net.{at, acts_of}
 
 -- the first cause that there is
@@ -44,10 +45,6 @@ name_fault name =
 abbrev pub bad_name : Option ℕ → Option OpenRefusal
 bad_name None = None
 bad_name (Some place) = Some (open_refusal.BadName place)
-
--- the channels that a session may have
-abbrev pub channel_limit : ℕ
-channel_limit = 1
 
 -- the bytes that a message may have
 abbrev pub message_limit : ℕ
