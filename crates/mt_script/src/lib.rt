@@ -6,8 +6,10 @@
 #![tactic(auto)]
 
 mod event;
+mod line;
 mod script;
 mod text;
+mod words;
 
 pub use event::{Event, Line, ScriptRefusal};
 pub use script::{Script, read_script};

@@ -29,6 +29,13 @@ impl Text {
         }
     }
 
+    /// The text that these bytes are; they are not copied.
+    pub(crate) fn from_vec(kept: Vec<u8>) -> Text
+        ensures { result ≡ kept.items }
+    {
+        Text { kept }
+    }
+
     /// The bytes.
     pub fn bytes(&self) -> &[u8]
         ensures { result.now ≡ self.now }
