@@ -1,5 +1,5 @@
 -- The steps of reading: a text cut in two, the words of a line, and what each step answers.
-use Rattle.std.specs.Prelude.{◌≡◌, ◌≢◌, ℕ, ◌<◌, ◌==◌, ◌&&◌, ◌||◌, codes, Bool, false, not, nat_le, length, List, [], ◌∷◌, ◌++◌, Option, Some, None, Result, Ok, Err, MatchOption}
+use Rattle.std.specs.Prelude.{◌≡◌, ◌≢◌, ℕ, ◌==◌, ◌&&◌, ◌||◌, codes, Bool, false, not, nat_le, length, List, [], ◌∷◌, ◌++◌, Option, Some, None, Result, Ok, Err}
 use Rattle.std.specs.List.{slice_split, list_all}
 use Rattle.std.specs.Borrow.{Bor}
 use Rattle.hex.specs.declared.error.FromHexError.{FromHexError}
@@ -14,8 +14,8 @@ use Rattle.mt_script.specs.declared.words.LineFault.{LineFault}
 use Rattle.mt_script.specs.declared.words.LineFault.TheVariants as fault
 use Rattle.mt_script.specs.declared.words.Words.{Words}
 use Rattle.mt_script.specs.Lines.{Lacks}
-use Rattle.mt_script.specs.Spelling.{words_of, spelled, hex_text, IsBytes, IsEvent}
-use Rattle.mt_script.specs.Meaning.{Meaning, Does, UnknownCommand, WrongWords, Means, numbered}
+use Rattle.mt_script.specs.Spelling.{words_of, spelled, IsEvent}
+use Rattle.mt_script.specs.Meaning.{Does, UnknownCommand, WrongWords, Means, numbered}
 
 -- the bytes before the first such byte, and those behind it, or all bytes where there is none
 abbrev pub IsCut : ℕ → List ℕ → List ℕ → Option (Bor (List ℕ)) → Type 0
@@ -94,3 +94,11 @@ Spells Is spelling word (Ok value) = Is value × (word ≡ spelling value)
 Spells Is spelling word (Err fault.BadWords) = (value : _) → Is value → word ≢ spelling value
 Spells Is spelling word (Err fault.BadCommand) = ⊥
 Spells Is spelling word (Err fault.NoMemory) = Unit {0}
+
+-- What a line adds to the events before it; a refusal names its number.
+abbrev pub AddsLine : List Line → List Line → List ℕ → ℕ → Result (Unit {0}) ScriptRefusal → Type 0
+AddsLine old new line number (Ok done) = (does : Option Event) × Means line (Does does) × (new ≡ old ++ numbered number (does ∷ []))
+AddsLine old new line number (Err (BadCommand n)) = (n ≡ number) × Means line UnknownCommand
+AddsLine old new line number (Err (BadWords n)) = (n ≡ number) × Means line WrongWords
+AddsLine old new line number (Err (TooManyLines limit)) = ⊥
+AddsLine old new line number (Err NoMemory) = Unit {0}

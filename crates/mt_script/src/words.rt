@@ -1,9 +1,9 @@
 //! The words of one line, taken one by one as what they spell.
 
-ghost use Rattle.std.specs.Prelude.{◌≡◌, ◌≢◌, ◌∷◌, [], ℕ, List, ◌<◌, ◌^◌, MatchOption, MatchResult, OnOk, OnErr};
+ghost use Rattle.std.specs.Prelude.{◌≡◌, ◌≢◌, ◌∷◌, [], ℕ, List, ◌<◌, ◌^◌, length, MatchOption, OnOk, OnErr};
 ghost use Rattle.std.specs.Fmt.{decimal};
 ghost use Rattle.std.specs.List.{list_all};
-ghost use Rattle.mt_script.specs.Lines.{Lacks};
+ghost use Rattle.mt_script.specs.Lines.{Lacks, lines_of};
 ghost use Rattle.mt_script.specs.Spelling.{side_name, hex_text, IsBytes, IsWord};
 ghost use Rattle.mt_base.specs.declared.kinds.Role.{Role};
 ghost use Rattle.mt_script.specs.declared.words.Command.{Command};
@@ -53,6 +53,20 @@ pub(crate) fn cut_at(byte: u8, text: &[u8]) -> (&[u8], Option<&[u8]>)
     match memchr(byte, text) {
         Some(end) => (&text[..end], Some(&text[end + 1..])),
         None => (text, None),
+    }
+}
+
+/// The first line of a text, and the text behind it.
+pub(crate) fn cut_line(text: &[u8]) -> (&[u8], &[u8])
+    requires { 0 < length text.now }
+    ensures lines { lines_of text.now ≡ result.0.now ∷ lines_of result.1.now }
+    ensures no_end { Lacks 10 result.0.now }
+    ensures shorter { length result.1.now < length text.now }
+{
+    let (line, rest) = cut_at(b'\n', text);
+    match rest {
+        Some(rest) => (line, rest),
+        None => (line, &[]),
     }
 }
 

@@ -1,4 +1,4 @@
-use Rattle.std.proofs.Common.{◌≡◌, ◌∷◌, false, sym, ap, ◌∙◌}
+use Rattle.std.proofs.Common.{sym, ◌∙◌}
 use Rattle.mt_script.proofs.LineMeaning.{line_completes, line_fails, no_command}
 use Rattle.mt_script.specs.Reading.{words_left}
 use Rattle.mt_script.proofs.line.read_line.Goals as goal
