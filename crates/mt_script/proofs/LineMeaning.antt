@@ -35,9 +35,9 @@ behind_open byte name h =
 pub opens : (words after : List (List ℕ)) (name : List ℕ) → IsWord name × (words ≡ name ∷ after) → after ≡ []
     → (codes "open" ∷ words ≡ words_of (Open name)) × (Lacks 10 (spelled (Open name)) → IsEvent (Open name))
 opens words after name taken none = (
-    ap (λ ws. codes "open" ∷ ws) (taken.1 ∙ ap (λ ws. name ∷ ws) none),
-    λ h. (taken.0, behind_open 10 name h),
-  )
+  ap (λ ws. codes "open" ∷ ws) (taken.1 ∙ ap (λ ws. name ∷ ws) none),
+  λ h. (taken.0, behind_open 10 name h),
+)
 
 -- ---- the first word
 
@@ -142,8 +142,8 @@ begins_with line word words cut =
 pub line_fails : (line : List ℕ) (command : Command) (words : List (List ℕ)) (fault : LineFault) → split_at_blanks line ≡ command_name command ∷ words
     → Completes (command_name command) words (Err fault) → MeansAs line (Err fault)
 line_fails line command words fault.BadWords cut none = (
-    subst (Contains commands) (begins_with line (command_name command) words cut) (command_listed command),
-    no_event line (command_name command ∷ words) cut none,
-  )
+  subst (Contains commands) (begins_with line (command_name command) words cut) (command_listed command),
+  no_event line (command_name command ∷ words) cut none,
+)
 line_fails line command words fault.BadCommand cut none = absurd none
 line_fails line command words fault.NoMemory cut none = tt

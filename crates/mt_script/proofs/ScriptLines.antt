@@ -60,9 +60,14 @@ goes_on text rest line after number old new s cut adds =
 fault_at : (text rest line after : List ℕ) (number n : ℕ) (fault : Meaning) (old : List Line) → SoFar text rest number old → lines_of rest ≡ line ∷ lines_of after → n ≡ number + 1 → Means line fault → FirstFault (lines_of text) n fault
 fault_at text rest line after number n fault old s cut is bad =
     record {
-      before = s.before; line = line; after = lines_of after; does = s.does;
+      before = s.before;
+      line = line;
+      after = lines_of after;
+      does = s.does;
       parts = s.parts ∙ ap (λ ls. s.before ++ ls) cut;
-      good = s.good; bad = bad; number_is = is ∙ ap (λ k. k + 1) s.counted;
+      good = s.good;
+      bad = bad;
+      number_is = is ∙ ap (λ k. k + 1) s.counted;
     }
 
 -- a line that is refused

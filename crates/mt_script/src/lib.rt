@@ -14,3 +14,6 @@ mod words;
 pub use event::{Event, Line, ScriptRefusal};
 pub use script::{Script, read_script};
 pub use text::Text;
+
+#[cfg(test)]
+mod tests;

@@ -15,6 +15,6 @@ returns-in-Err c =
 
 pub returns-in-None : goal.returns-in-None
 returns-in-None c = (
-    λ skipped. let yes = c.if-is_skipped.ensures.1 skipped in cc,
-    no_command c.args.line.now (λ command rest e. c.in-None.ensures command rest (c.new-words.ensures ∙ e)),
-  )
+  λ skipped. let yes = c.if-is_skipped.ensures.1 skipped in cc,
+  no_command c.args.line.now (λ command rest e. c.in-None.ensures command rest (c.new-words.ensures ∙ e)),
+)
