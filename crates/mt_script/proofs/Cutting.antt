@@ -38,7 +38,7 @@ pub front_lacks : (byte : ℕ) (text front : List ℕ) (rest : Option (Bor (List
 front_lacks byte text front None c = c.0
 front_lacks byte text front (Some rest) c = c.0
 
-when_false : (b : Bool) (x y : List (List ℕ)) → b ≡ false → cond b x y ≡ y
+pub when_false : (b : Bool) (x y : List (List ℕ)) → b ≡ false → cond b x y ≡ y
 when_false true x y h = cc
 when_false false x y h = refl
 

@@ -60,7 +60,7 @@ digit_lower : (v : ℕ) → v < 16 → is_lower_digit (get_or lower_digits v 0) 
 digit_lower v h = below_at (λ w. is_lower_digit (get_or lower_digits w 0)) 16 v refl h
 
 -- an even number of lower case digits is the text of some bytes
-hex_bytes : (s : List ℕ) → length s % 2 ≡ 0 → list_all is_lower_digit s ≡ true → (m : List ℕ) × IsBytes m × (encode_lower m ≡ s)
+pub hex_bytes : (s : List ℕ) → length s % 2 ≡ 0 → list_all is_lower_digit s ≡ true → (m : List ℕ) × IsBytes m × (encode_lower m ≡ s)
 unfolding encode_with
 hex_bytes [] even h = ([], All-nil (λ b. b < 256), refl)
 hex_bytes (a ∷ []) even h = absurd (omega arith)
@@ -111,7 +111,7 @@ hex_reads word (byte ∷ rest) h is =
     let digits : is_lower_hex (encode_lower (byte ∷ rest)) ≡ true = both _ _ (some_text byte rest) (lower_text (byte ∷ rest) h) in
     inr (ap is_lower_hex is ∙ digits, ap decode_of is ∙ decode_of-encode_lower (byte ∷ rest) (bytes_there (byte ∷ rest) h))
 
-full_text : (word m : List ℕ) → is_lower_hex word ≡ true → encode_lower m ≡ word → word ≡ hex_text m
+pub full_text : (word m : List ℕ) → is_lower_hex word ≡ true → encode_lower m ≡ word → word ≡ hex_text m
 unfolding encode_with
 full_text word [] h e = let none : is_lower_hex [] ≡ true = ap is_lower_hex e ∙ h in cc
 full_text word (byte ∷ rest) h e = sym e

@@ -60,7 +60,7 @@ command_listed command.Send = (1, lit< tt, refl)
 command_listed command.Main = (2, lit< tt, refl)
 
 -- and what the list has is a command
-listed_command : (word : List ℕ) → Contains commands word → (command : Command) × (word ≡ command_name command)
+pub listed_command : (word : List ℕ) → Contains commands word → (command : Command) × (word ≡ command_name command)
 listed_command word (zero, small, is) = (command.Open, sym is)
 listed_command word (suc zero, small, is) = (command.Send, sym is)
 listed_command word (suc (suc zero), small, is) = (command.Main, sym is)
@@ -131,10 +131,10 @@ line_completes line command words event lacks cut completes =
     let is = spelled_by_words line event (cut ∙ completes.0) in
     (completes.1 (subst (Lacks 10) is lacks), is)
 
-no_event : (line : List ℕ) (words : List (List ℕ)) → split_at_blanks line ≡ words → ((event : Event) → IsEvent event → words ≢ words_of event) → (event : Event) → IsEvent event → line ≢ spelled event
+pub no_event : (line : List ℕ) (words : List (List ℕ)) → split_at_blanks line ≡ words → ((event : Event) → IsEvent event → words ≢ words_of event) → (event : Event) → IsEvent event → line ≢ spelled event
 no_event line words cut none event h is = none event h (sym cut ∙ ap split_at_blanks is ∙ split_spelled event h)
 
-begins_with : (line word : List ℕ) (words : List (List ℕ)) → split_at_blanks line ≡ word ∷ words → word ≡ first_word line
+pub begins_with : (line word : List ℕ) (words : List (List ℕ)) → split_at_blanks line ≡ word ∷ words → word ≡ first_word line
 begins_with line word words cut =
     let begins = words_begin line in
     let both : word ∷ words ≡ first_word line ∷ begins.0 = sym cut ∙ begins.1 in cc

@@ -6,12 +6,14 @@
 #![tactic(auto)]
 
 mod event;
+mod laws;
 mod line;
 mod script;
 mod text;
 mod words;
 
 pub use event::{Event, Line, ScriptRefusal};
+pub use laws::{cut_into_lines, one_answer, one_meaning, one_spelling};
 pub use script::{Script, read_script};
 pub use text::Text;
 
