@@ -5,3 +5,5 @@ pub mod LineMeaning
 pub mod ScriptLines
 pub mod LineLaws
 pub mod Spellings
+pub mod Meanings
+pub mod WholeTexts

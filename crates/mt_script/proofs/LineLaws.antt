@@ -1,22 +1,22 @@
 -- The lines of a text, and the text of lines.
-use Rattle.std.proofs.Common.{◌≡◌, ◌≢◌, ℕ, ◌<◌, ◌+◌, Bool, true, false, eqb, cond, ◌⊎◌, inl, inr, List, [], ◌∷◌, ◌++◌, length, refl, sym, ap, subst, ◌∙◌, append_assoc, arith}
+use Rattle.std.proofs.Common.{◌≡◌, ◌≢◌, ℕ, ◌<◌, Bool, true, false, eqb, cond, ◌⊎◌, inl, inr, List, [], ◌∷◌, ◌++◌, length, refl, sym, ap, subst, ◌∙◌, append_assoc, arith}
 use Rattle.std.proofs.lemmas.Bool.Decides.{nat_tests}
 use Rattle.std.proofs.lemmas.Bool.{eqb-true}
 use Rattle.std.proofs.lemmas.List.Elements.{All-nil, All-cons, All-head, All-tail, All-from_recursion}
 use Rattle.std.specs.List.{All, AllByRecursion, onto_first}
 use Rattle.mt_script.specs.Lines.{Lacks, ended, lines_of}
-use Rattle.mt_script.proofs.Cutting.{lines_of-ended, lines_of-last, when_false}
+use Rattle.mt_script.proofs.Cutting.{lines_of-ended, lines_of-last}
 
 -- what holds of the empty line and of one byte more before a line, where the byte is not 10, holds of each line
-each_part : (Q : List ℕ → Type 0) (b : Bool) (x : ℕ) (parts : List (List ℕ)) → Q [] → (b ≡ false → (l : List ℕ) → Q l → Q (x ∷ l)) → AllByRecursion Q parts → AllByRecursion Q (cond b ([] ∷ parts) (onto_first x parts))
+pub each_part : (Q : List ℕ → Type 0) (b : Bool) (x : ℕ) (parts : List (List ℕ)) → Q [] → (b ≡ false → (l : List ℕ) → Q l → Q (x ∷ l)) → AllByRecursion Q parts → AllByRecursion Q (cond b ([] ∷ parts) (onto_first x parts))
 each_part Q true x parts none more h = (none, h)
 each_part Q false x [] none more h = (more refl [] none, tt)
 each_part Q false x (part ∷ parts) none more h = (more refl part h.0, h.1)
 
-other_byte : (x byte : ℕ) → eqb x byte ≡ false → x ≢ byte
+pub other_byte : (x byte : ℕ) → eqb x byte ≡ false → x ≢ byte
 other_byte x byte h e = grind (arith, nat_tests)
 
-no_ends_by : (text : List ℕ) → AllByRecursion (Lacks 10) (lines_of text)
+pub no_ends_by : (text : List ℕ) → AllByRecursion (Lacks 10) (lines_of text)
 no_ends_by [] = tt
 no_ends_by (x ∷ xs) =
     each_part (Lacks 10) (eqb x 10) x (lines_of xs) (All-nil (λ b. b ≢ 10)) (λ other l h. All-cons (λ b. b ≢ 10) x l (other_byte x 10 other) h) (no_ends_by xs)

@@ -1,5 +1,5 @@
 -- Each event has a spelling of its own; and it can be told whether words are those of an event.
-use Rattle.std.proofs.Common.{◌≡◌, ◌≢◌, ℕ, ◌<◌, ◌≤◌, ◌^◌, ◌+◌, ◌%◌, Bool, true, false, not, ltb, eqb, ◌&&◌, ◌⊎◌, inl, inr, List, [], ◌∷◌, ◌++◌, length, get_or, Result, Ok, Err, refl, sym, ap, subst, ◌∙◌, codes, arith}
+use Rattle.std.proofs.Common.{◌≡◌, ◌≢◌, ℕ, ◌<◌, ◌^◌, ◌%◌, Bool, true, false, not, ltb, eqb, ◌&&◌, ◌⊎◌, inl, inr, List, [], ◌∷◌, length, Ok, refl, sym, ap, subst, ◌∙◌, codes, arith}
 use Rattle.std.proofs.lemmas.Bool.{cases_lt, and_parts}
 use Rattle.std.proofs.lemmas.Bool.Decides.{nat_tests, Decides-and, Decides-eqb}
 use Rattle.std.proofs.lemmas.Fmt.{decimal_is_IsNumeral, decimal_injective}
@@ -158,9 +158,9 @@ tell_side word =
     elim (same_or_not word (codes "server")) [
       | inl is ↦ inl (Server, tt, is)
       | inr other ↦ elim (same_or_not word (codes "client")) [
-          | inl is ↦ inl (Client, tt, is)
-          | inr nor ↦ inr (neither word other nor)
-        ]
+        | inl is ↦ inl (Client, tt, is)
+        | inr nor ↦ inr (neither word other nor)
+      ]
     ]
 
 value_of : (word : List ℕ) (id : ℕ) → id < 2 ^ 32 → word ≡ decimal id → digits_value 10 word ≡ id
@@ -170,9 +170,9 @@ tell_id : (word : List ℕ) → Told {A = ℕ} (λ id. id < 2 ^ 32) decimal word
 tell_id word =
     elim (cases_lt (digits_value 10 word) (2 ^ 32)) [
       | inl small ↦ elim (same_or_not word (decimal (digits_value 10 word))) [
-          | inl is ↦ inl (digits_value 10 word, small, is)
-          | inr other ↦ inr (λ id h is. other (is ∙ ap decimal (sym (value_of word id h is))))
-        ]
+        | inl is ↦ inl (digits_value 10 word, small, is)
+        | inr other ↦ inr (λ id h is. other (is ∙ ap decimal (sym (value_of word id h is))))
+      ]
       | inr large ↦ inr (λ id h is. let same = value_of word id h is in absurd (omega arith))
     ]
 
@@ -188,15 +188,15 @@ tell_bytes word =
     elim (same_or_not word (codes "-")) [
       | inl is ↦ inl ([], (λ k d within. absurd (omega arith)), is)
       | inr other ↦ elim (told (is_lower_hex word && eqb (length word % 2) 0) (is_even_hex word)) [
-          | inl digits ↦
-              let parts = and_parts (not (eqb (length word) 0)) (list_all is_lower_digit word) digits.0 in
-              let m = hex_bytes word digits.1 parts.1 in
-              inl (m.0, m.1, full_text word m.0 digits.0 m.2)
-          | inr odd ↦ inr (λ bytes h is. elim (hex_reads word bytes h is) [
-              | inl dash ↦ other dash
-              | inr reads ↦ odd (reads.0, even_text word bytes reads.1)
-            ])
-        ]
+        | inl digits ↦
+            let parts = and_parts (not (eqb (length word) 0)) (list_all is_lower_digit word) digits.0 in
+            let m = hex_bytes word digits.1 parts.1 in
+            inl (m.0, m.1, full_text word m.0 digits.0 m.2)
+        | inr odd ↦ inr (λ bytes h is. elim (hex_reads word bytes h is) [
+          | inl dash ↦ other dash
+          | inr reads ↦ odd (reads.0, even_text word bytes reads.1)
+        ])
+      ]
     ]
 
 -- words that are those of one event, or of none
@@ -232,9 +232,9 @@ open_one : (word : List ℕ) → Told {A = List ℕ} (λ name. IsWord name × La
 open_one word (inl is) = inl (Open is.0, is.1, ap (λ w. codes "open" ∷ w ∷ []) is.2)
 open_one word (inr none) =
     inr (λ event h e.
-        let v = open_words (word ∷ []) event e in
-        let same : word ≡ v.0 = let both = v.2 in cc in
-        none v.0 (subst IsEvent v.1 h) same)
+    let v = open_words (word ∷ []) event e in
+    let same : word ≡ v.0 = let both = v.2 in cc in
+    none v.0 (subst IsEvent v.1 h) same)
 
 tell_open : (rest : List (List ℕ)) → AllByRecursion Fine rest → ToldWords (codes "open" ∷ rest)
 tell_open [] h = inr (λ event is e. let v = open_words [] event e in let both = v.2 in cc)
@@ -247,21 +247,21 @@ send_three a b c (inl s) (inl i) (inl m) =
     inl (Send s.0 i.0 m.0, (i.1, m.1), ap (λ w. codes "send" ∷ w ∷ b ∷ c ∷ []) s.2 ∙ ap (λ w. codes "send" ∷ side_name s.0 ∷ w ∷ c ∷ []) i.2 ∙ ap (λ w. codes "send" ∷ side_name s.0 ∷ decimal i.0 ∷ w ∷ []) m.2)
 send_three a b c (inr none) i m =
     inr (λ event h e.
-        let v = send_words (a ∷ b ∷ c ∷ []) event e in
-        let same : a ≡ side_name v.0 = let both = v.4 in cc in
-        none v.0 tt same)
+    let v = send_words (a ∷ b ∷ c ∷ []) event e in
+    let same : a ≡ side_name v.0 = let both = v.4 in cc in
+    none v.0 tt same)
 send_three a b c (inl s) (inr none) m =
     inr (λ event h e.
-        let v = send_words (a ∷ b ∷ c ∷ []) event e in
-        let same : b ≡ decimal v.1 = let both = v.4 in cc in
-        let holds = subst IsEvent v.3 h in
-        none v.1 holds.0 same)
+    let v = send_words (a ∷ b ∷ c ∷ []) event e in
+    let same : b ≡ decimal v.1 = let both = v.4 in cc in
+    let holds = subst IsEvent v.3 h in
+    none v.1 holds.0 same)
 send_three a b c (inl s) (inl i) (inr none) =
     inr (λ event h e.
-        let v = send_words (a ∷ b ∷ c ∷ []) event e in
-        let same : c ≡ hex_text v.2 = let both = v.4 in cc in
-        let holds = subst IsEvent v.3 h in
-        none v.2 holds.1 same)
+    let v = send_words (a ∷ b ∷ c ∷ []) event e in
+    let same : c ≡ hex_text v.2 = let both = v.4 in cc in
+    let holds = subst IsEvent v.3 h in
+    none v.2 holds.1 same)
 
 tell_send : (rest : List (List ℕ)) → ToldWords (codes "send" ∷ rest)
 tell_send [] = inr (λ event is e. let v = send_words [] event e in let both = v.4 in cc)
@@ -274,14 +274,14 @@ main_two : (a b : List ℕ) → Told {A = Role} (λ _. Unit {0}) side_name a →
 main_two a b (inl s) (inl all) = inl (Main s.0, tt, ap (λ w. codes "main" ∷ w ∷ b ∷ []) s.2 ∙ ap (λ w. codes "main" ∷ side_name s.0 ∷ w ∷ []) all)
 main_two a b (inr none) all =
     inr (λ event h e.
-        let v = main_words (a ∷ b ∷ []) event e in
-        let same : a ≡ side_name v.0 = let both = v.2 in cc in
-        none v.0 tt same)
+    let v = main_words (a ∷ b ∷ []) event e in
+    let same : a ≡ side_name v.0 = let both = v.2 in cc in
+    none v.0 tt same)
 main_two a b (inl s) (inr none) =
     inr (λ event h e.
-        let v = main_words (a ∷ b ∷ []) event e in
-        let same : b ≡ codes "all" = let both = v.2 in cc in
-        none same)
+    let v = main_words (a ∷ b ∷ []) event e in
+    let same : b ≡ codes "all" = let both = v.2 in cc in
+    none same)
 
 tell_main : (rest : List (List ℕ)) → ToldWords (codes "main" ∷ rest)
 tell_main [] = inr (λ event is e. let v = main_words [] event e in let both = v.2 in cc)
@@ -304,10 +304,10 @@ tell_command word =
     elim (same_or_not word (codes "open")) [
       | inl is ↦ inl (command.Open, is)
       | inr o ↦ elim (same_or_not word (codes "send")) [
-          | inl is ↦ inl (command.Send, is)
-          | inr s ↦ elim (same_or_not word (codes "main")) [
-              | inl is ↦ inl (command.Main, is)
-              | inr m ↦ inr (λ listed. unlisted word o s m (listed_command word listed))
-            ]
+        | inl is ↦ inl (command.Send, is)
+        | inr s ↦ elim (same_or_not word (codes "main")) [
+          | inl is ↦ inl (command.Main, is)
+          | inr m ↦ inr (λ listed. unlisted word o s m (listed_command word listed))
         ]
+      ]
     ]

@@ -31,6 +31,10 @@ fn reads_each_kind(rt: HostRuntime) -> Result<(), Fail> {
         _ => assert!(rt; false, "the last line"),
     }
     assert!(rt; script.event(4).is_none());
+    cut_into_lines();
+    one_spelling();
+    one_meaning();
+    one_answer();
     Ok(())
 }
 
