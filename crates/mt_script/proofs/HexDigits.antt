@@ -12,7 +12,7 @@ use Rattle.hex.specs.declared.error.FromHexError.{FromHexError}
 use Rattle.hex.proofs.HexLemmas.{decode_of-encode_lower, decode_of-ok}
 use Rattle.mt_script.specs.Spelling.{hex_text, IsBytes}
 use Rattle.hex.specs.declared.error.FromHexError.TheVariants.{InvalidHexCharacter, OddLength, InvalidStringLength, OutOfMemory}
-use Rattle.mt_script.specs.declared.words.LineFault.{LineFault}
+use Rattle.mt_script.specs.declared.fault.LineFault.{LineFault}
 use Rattle.mt_script.specs.Reading.{is_lower_digit, is_lower_hex, decoding_fault, Spells}
 
 -- each number below n passes a test

@@ -17,10 +17,10 @@ use Rattle.mt_script.specs.Spelling.{side_name, hex_text, words_of, spelled, IsB
 use Rattle.mt_script.specs.Meaning.{commands, first_word}
 use Rattle.mt_script.specs.declared.event.Event.{Event}
 use Rattle.mt_script.specs.declared.event.Event.TheVariants.{Open, Send, Main}
-use Rattle.mt_script.specs.declared.words.Command.{Command}
-use Rattle.mt_script.specs.declared.words.Command.TheVariants as command
-use Rattle.mt_script.specs.declared.words.LineFault.{LineFault}
-use Rattle.mt_script.specs.declared.words.LineFault.TheVariants as fault
+use Rattle.mt_script.specs.declared.values.Command.{Command}
+use Rattle.mt_script.specs.declared.values.Command.TheVariants as command
+use Rattle.mt_script.specs.declared.fault.LineFault.{LineFault}
+use Rattle.mt_script.specs.declared.fault.LineFault.TheVariants as fault
 use Rattle.mt_script.specs.Reading.{split_at_blanks, command_name, is_lower_digit, Completes, MeansAs}
 use Rattle.mt_script.proofs.Cutting.{none_passes}
 use Rattle.mt_script.proofs.HexDigits.{lower_text}

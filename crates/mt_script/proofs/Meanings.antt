@@ -5,8 +5,8 @@ use Rattle.std.proofs.lemmas.List.Elements.{All-nil, All-cons, All-head, All-tai
 use Rattle.std.specs.List.{AllByRecursion, Contains, position_or_len}
 use Rattle.mt_script.specs.declared.event.Event.{Event}
 use Rattle.mt_script.specs.declared.event.Event.TheVariants.{Open, Send, Main}
-use Rattle.mt_script.specs.declared.words.Command.{Command}
-use Rattle.mt_script.specs.declared.words.Command.TheVariants as command
+use Rattle.mt_script.specs.declared.values.Command.{Command}
+use Rattle.mt_script.specs.declared.values.Command.TheVariants as command
 use Rattle.mt_script.specs.Lines.{Lacks}
 use Rattle.mt_script.specs.Spelling.{words_of, spelled, IsBytes, IsEvent}
 use Rattle.mt_script.specs.Meaning.{commands, first_word, IsSkipped, Meaning, Does, UnknownCommand, WrongWords, Means}

@@ -22,8 +22,8 @@ use Rattle.mt_script.specs.declared.event.Event.TheVariants.{Open, Send, Main}
 use Rattle.mt_script.specs.Lines.{Lacks}
 use Rattle.mt_script.specs.Spelling.{side_name, hex_text, words_of, spelled, IsBytes, IsWord, IsEvent}
 use Rattle.mt_script.specs.Meaning.{commands}
-use Rattle.mt_script.specs.declared.words.Command.{Command}
-use Rattle.mt_script.specs.declared.words.Command.TheVariants as command
+use Rattle.mt_script.specs.declared.values.Command.{Command}
+use Rattle.mt_script.specs.declared.values.Command.TheVariants as command
 use Rattle.mt_script.specs.Reading.{split_at_blanks, command_name, is_lower_hex, is_lower_digit}
 use Rattle.mt_script.proofs.HexDigits.{bytes_there, lower_text, hex_bytes, hex_reads, full_text}
 use Rattle.mt_script.proofs.LineMeaning.{split_spelled, listed_command}

@@ -8,10 +8,10 @@ use Rattle.mt_script.specs.declared.event.Event.{Event}
 use Rattle.mt_script.specs.declared.event.Line.{Line}
 use Rattle.mt_script.specs.declared.event.ScriptRefusal.{ScriptRefusal}
 use Rattle.mt_script.specs.declared.event.ScriptRefusal.TheVariants.{BadCommand, BadWords, TooManyLines, NoMemory}
-use Rattle.mt_script.specs.declared.words.Command.{Command}
-use Rattle.mt_script.specs.declared.words.Command.TheVariants.{Open, Send, Main}
-use Rattle.mt_script.specs.declared.words.LineFault.{LineFault}
-use Rattle.mt_script.specs.declared.words.LineFault.TheVariants as fault
+use Rattle.mt_script.specs.declared.values.Command.{Command}
+use Rattle.mt_script.specs.declared.values.Command.TheVariants.{Open, Send, Main}
+use Rattle.mt_script.specs.declared.fault.LineFault.{LineFault}
+use Rattle.mt_script.specs.declared.fault.LineFault.TheVariants as fault
 use Rattle.mt_script.specs.declared.words.Words.{Words}
 use Rattle.mt_script.specs.Lines.{Lacks}
 use Rattle.mt_script.specs.Spelling.{words_of, spelled, IsEvent}

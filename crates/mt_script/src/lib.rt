@@ -5,11 +5,14 @@
 //! between a text and the events that its lines spell, and that reading gives exactly those.
 #![tactic(auto)]
 
+mod cut;
 mod event;
+mod fault;
 mod laws;
 mod line;
 mod script;
 mod text;
+mod values;
 mod words;
 
 pub use event::{Event, Line, ScriptRefusal};

@@ -6,7 +6,9 @@ ghost use Rattle.mt_script.specs.Lines.{Lacks};
 ghost use Rattle.mt_script.specs.Reading.{Completes, MeansAs, command_name, words_left};
 
 use crate::event::Event;
-use crate::words::{Command, LineFault, Words};
+use crate::fault::LineFault;
+use crate::values::Command;
+use crate::words::Words;
 use std::alloc::Global;
 
 /// Whether a line is empty or a comment.

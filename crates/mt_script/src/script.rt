@@ -4,9 +4,9 @@ ghost use Rattle.std.specs.Prelude.{◌≡◌, ◌≤◌, length};
 ghost use Rattle.mt_script.specs.Lines.{lines_of};
 ghost use Rattle.mt_script.specs.Meaning.{Reads, line_limit};
 
+use crate::cut::cut_line;
 use crate::event::{Event, Line, ScriptRefusal};
 use crate::line::read_line;
-use crate::words::cut_line;
 use std::alloc::Global;
 use std::marker::Model;
 

@@ -1,7 +1,7 @@
 use Rattle.std.proofs.Common.{sym, ap, subst, ◌∙◌}
 use Rattle.std.specs.Str.{bytes_eq}
 use Rattle.mt_script.proofs.HexDigits.{hex_spelled, no_hex, SpelledBy, Unspelled, not_decoded}
-use Rattle.mt_script.proofs.words.bytes_of.Goals as goal
+use Rattle.mt_script.proofs.values.bytes_of.Goals as goal
 
 pub returns-then-not-is_lower_hex : goal.returns-then-not-is_lower_hex
 returns-then-not-is_lower_hex c = λ bytes h is.

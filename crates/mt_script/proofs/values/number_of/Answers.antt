@@ -1,6 +1,6 @@
 use Rattle.std.proofs.Common.{sym, ◌∙◌}
 use Rattle.mt_script.proofs.Numbers.{number_parsed, number_reads}
-use Rattle.mt_script.proofs.words.number_of.Goals as goal
+use Rattle.mt_script.proofs.values.number_of.Goals as goal
 
 pub returns-then-not-begins_as_number : goal.returns-then-not-begins_as_number
 returns-then-not-begins_as_number c = λ id small is.
