@@ -1,5 +1,6 @@
 -- One line in the loop over the lines of a script.
-use Rattle.std.proofs.Common.{◌≡◌, ℕ, List, ◌∷◌, Result, Ok, Err, refl, sym, ap, ◌∙◌}
+use Rattle.std.proofs.Common.{◌≡◌, ℕ, suc, ◌+◌, ◌<◌, List, ◌∷◌, length, drop, get_or, add-one, Result, Ok, Err, refl, sym, ap, ◌∙◌}
+use Rattle.std.proofs.Math.Seq.{drop-cons}
 use Rattle.mt_base.specs.declared.kinds.Role.{Role}
 use Rattle.mt_base.specs.Trace.{Trace}
 use Rattle.mt_script.specs.declared.event.Line.{Line}
@@ -33,3 +34,8 @@ pub refused : (new : World) (w : Trace (Role × Entry)) (line : Line) (left rest
 refused new w line left rest all NoMemory is before some s = absurd (some refl)
 refused new w line left rest all UnknownChannel is before some s = ends w line left rest all UnknownChannel is before s.0
 refused new w line left rest all (Refused cause) is before some s = ends w line left rest all (Refused cause) is before s.0
+
+-- the lines that are left begin with the next one
+pub first : (lines : List Line) (i : ℕ) (line : Line) → i < length lines → line ≡ get_or lines i line → drop i lines ≡ line ∷ drop (i + 1) lines
+first lines i line within is =
+    drop-cons lines i line within ∙ ap (λ x. x ∷ drop (suc i) lines) (sym is) ∙ ap (λ n. line ∷ drop n lines) (sym (add-one i))

@@ -1,5 +1,5 @@
 -- What a fault that ends a command says of its words and of the store.
-use Rattle.std.specs.Prelude.{◌≡◌, ℕ, ◌<◌, List, length, string_bytes, Option, Some, None, Result, Ok, Err}
+use Rattle.std.specs.Prelude.{◌≡◌, ℕ, ◌<◌, ◌⊎◌, List, length, take, string_bytes, Option, Some, None, Result, Ok, Err}
 use Rattle.mt_base.specs.declared.kinds.Role.{Role}
 use Rattle.mt_base.specs.Trace.{Trace}
 use Rattle.mt_script.specs.declared.event.Line.{Line}
@@ -11,15 +11,16 @@ use Rattle.mt_world.specs.Play.{Ending, Done, RefusedAt, start, play}
 use Rattle.mt_world.specs.WorldView.{Stands}
 use Rattle.mt_outside.specs.Faults.{Rose}
 use Rattle.mt_outside.specs.Files.{Contents}
+use Rattle.mt_outside.specs.Told.{added}
 use Rattle.rdpmt_program.specs.declared.fault.Fault.{Fault}
 use Rattle.rdpmt_program.specs.declared.fault.Fault.TheVariants.{Usage, Refused, File, Limit, NoMemory}
 use Rattle.rdpmt_program.specs.declared.playing.Stop.{Stop}
 use Rattle.rdpmt_program.specs.declared.playing.Stop.TheVariants as stop
 use Rattle.rdpmt_program.specs.declared.words.Command.{Command}
 use Rattle.rdpmt_program.specs.declared.words.Command.TheVariants.{Play}
-use Rattle.rdpmt_program.specs.Command.{IsPlay, IsCommand}
+use Rattle.rdpmt_program.specs.Command.{IsPlay, IsCommand, usage_line}
 use Rattle.rdpmt_program.specs.Script.{PlaysTo, IsRefused}
-use Rattle.rdpmt_program.specs.Table.{IsScript, PassesLimit}
+use Rattle.rdpmt_program.specs.Table.{IsScript, PassesLimit, file_fault_line, no_memory_line, limit_line}
 
 -- what the words were read as
 abbrev pub IsRead : List (List ℕ) → Option Command → Type 0
@@ -56,4 +57,19 @@ Runs words told before after (Err Usage) = ¬ IsCommand words
 Runs words told before after (Err (Refused line)) = (text : List ℕ) × IsScript words told text × IsRefused text (string_bytes line)
 Runs words told before after (Err File) = IsCommand words × Rose before after
 Runs words told before after (Err Limit) = PassesLimit words told
-Runs words told before after (Err NoMemory) = Unit {0}
+Runs words told before after (Err NoMemory) = IsCommand words
+
+-- the status and the output of what a command came to
+abbrev pub Tells : Result (List ℕ) Fault → ℕ → List ℕ → Type 0
+Tells (Ok report) status output = (status ≡ 0) × (output ≡ report)
+Tells (Err Usage) status output = (status ≡ 1) × (output ≡ usage_line)
+Tells (Err (Refused line)) status output = (status ≡ 2) × (output ≡ string_bytes line)
+Tells (Err File) status output = (status ≡ 3) × (output ≡ file_fault_line)
+Tells (Err NoMemory) status output = (status ≡ 9) × (output ≡ no_memory_line)
+Tells (Err Limit) status output = (status ≡ 11) × (output ≡ limit_line)
+
+-- The whole output was written and the status is the answer, or the sink failed: a front of the
+-- output was written, and the answer is 4.
+abbrev pub Printed : (status : ℕ) (output : List ℕ) (answer : ℕ) (old new : Option (List ℕ)) (before after : ℕ) → Type 0
+Printed status output answer old new before after =
+    ((answer ≡ status) × (new ≡ added old output)) ⊎ ((answer ≡ 4) × Rose before after × (k : ℕ) × (new ≡ added old (take k output)))

@@ -16,17 +16,20 @@ use Rattle.mt_world.specs.declared.refusal.Refused.TheVariants as refused
 use Rattle.mt_world.specs.declared.refusal.StepRefusal.{StepRefusal}
 use Rattle.mt_world.specs.declared.refusal.StepRefusal.TheVariants as step_refusal
 use Rattle.mt_world.specs.Acts.{Entry}
+use Rattle.mt_world.specs.Net.{Safe}
 use Rattle.mt_world.specs.Play.{start, play, Done, RefusedAt}
 use Rattle.mt_world.specs.Report.{report}
 
 -- The text is a script whose lines are played to their end, and this is the report on the calls
--- that they make.
+-- that they make. In these calls, on each channel and in each direction, the messages that were
+-- delivered are the first of those that were sent, each once and in order.
 pub record PlaysTo (text output : List ℕ) : Type 0 where
   pub lines : List Line
   pub list : Trace (Role × Entry)
   pub reads : ReadsAs text (Ok lines)
   pub played : play start lines ≡ (list, Done)
   pub reported : output ≡ report list
+  pub safe : Safe list
 
 -- the innermost name of what refused a step
 abbrev pub open_reason : OpenRefusal → List ℕ

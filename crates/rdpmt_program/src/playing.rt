@@ -10,7 +10,7 @@ ghost use Rattle.rdpmt_program.specs.Fate.{Plays, Gives, Runs, Refuses};
 use crate::fault::Fault;
 use mt_outside::{FileStore, ReadFault, read_file};
 use mt_script::{Line, ScriptRefusal, Text, read_script};
-use mt_world::{OpenRefusal, Refused, SendRefusal, StepRefusal, World};
+use mt_world::{OpenRefusal, Refused, SendRefusal, StepRefusal, World, plays_safely};
 use std::alloc::Global;
 
 /// The most bytes that a script has.
@@ -43,6 +43,7 @@ pub(crate) fn play_script<F: FileStore>(alloc: Global, files: &mut F, name: &str
 fn play_text(alloc: Global, text: &[u8]) -> Result<Text, Fault>
     ensures { Gives text.now result }
 {
+    plays_safely();
     let script = match read_script(alloc, text) {
         Ok(script) => script,
         Err(ScriptRefusal::BadCommand { line }) => return Err(refused(alloc, line, "BadCommand")),

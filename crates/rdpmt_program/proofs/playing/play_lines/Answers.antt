@@ -1,18 +1,18 @@
-use Rattle.std.proofs.Common.{◌<◌, length, drop, ◌∙◌, add-one, arith}
+use Rattle.std.proofs.Common.{◌≡◌, ◌<◌, ◌+◌, ◌∷◌, length, drop, sym, ap, ◌∙◌, add-one, arith}
 use Rattle.std.proofs.Math.Seq.{drop-cons}
-use Rattle.rdpmt_program.proofs.Loop.{taken, refused}
+use Rattle.rdpmt_program.proofs.Loop.{taken, refused, first}
 use Rattle.rdpmt_program.proofs.playing.play_lines.Goals as goal
 
 pub returns-in-Err : goal.returns-in-Err
 returns-in-Err c =
     let within : c.loop-line.line-index < length c.args.lines.now = omega arith in
     let h = c.loop-line.invariant in
-    let s = c.in-Err.ensures h.0 h.1 in
-    ?
+    refused c.step.new.self h.0 c.line-item.result (drop c.loop-line.line-index c.args.lines.now) (drop (c.loop-line.line-index + 1) c.args.lines.now) c.args.lines.now c.in-Err.cause
+    (first c.args.lines.now c.loop-line.line-index c.line-item.result within c.line-item.is) h.2 ? (c.in-Err.ensures h.0 h.1)
 
 pub loop-line-preserved : goal.loop-line-preserved
 loop-line-preserved c =
     let within : c.loop-line.line-index < length c.args.lines.now = omega arith in
     let h = c.loop-line.invariant in
-    let s = c.in-Ok.ensures h.0 h.1 in
-    ?
+    taken c.step.new.self h.0 c.line-item.result (drop c.loop-line.line-index c.args.lines.now) (drop (c.loop-line.line-index + 1) c.args.lines.now) c.args.lines.now ?
+    (first c.args.lines.now c.loop-line.line-index c.line-item.result within c.line-item.is) h.2 ?

@@ -1,12 +1,9 @@
-use Rattle.rdpmt_program.proofs.Runs.{two_words}
+use Rattle.std.proofs.Common.{codes, sym, ◌∙◌}
+use Rattle.rdpmt_program.proofs.Runs.{two_words, same_text}
 use Rattle.rdpmt_program.proofs.words.read_words.Goals as goal
 
 pub returns : goal.returns
 returns c =
-    let long = c.in-len2.len_at_least in
-    let short = c.in-len2.len_below in
-    let one = c.first-item.is in
-    let two = c.script-item.is in
-    let e = c.if-ne.ensures in
-    let f = c.ne.ensures in
-    ?
+    let play = same_text c.as_str.result.now (codes "play") (sym c.if-ne.ensures) in
+    two_words c.as_slice.result.now c.args.words.now.items c.first-item.result c.script-item.result c.as_str-2.result.now c.in-len2.len_at_least c.in-len2.len_below c.first-item.is c.script-item.is
+    c.as_slice.ensures.value (sym c.as_str.ensures.value ∙ play) c.as_str-2.ensures.value ?
