@@ -1,4 +1,4 @@
-use Rattle.std.proofs.Common.{◌∙◌, ap, sym, Some, length, take}
+use Rattle.std.proofs.Common.{◌∙◌, ap, sym, Some, length}
 use Rattle.std.proofs.Math.Seq.{take-length}
 use Rattle.mt_outside.specs.Files.{file_of, grown}
 use Rattle.mt_outside.specs.Memory.{Stored}
