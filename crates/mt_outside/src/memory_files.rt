@@ -1,6 +1,6 @@
 //! A store that keeps its files in memory.
 
-ghost use Rattle.std.specs.Prelude.{◌≡◌, ℕ, ◌+◌, ◌-◌, ◌≤◌, ◌^◌, List, [], ◌∷◌, None, Some, min, length, take, not, IsTrue, IsOk, IsErr, IfOk, OnOk, OnErr, option_map, option_copied};
+ghost use Rattle.std.specs.Prelude.{◌≡◌, ℕ, ◌+◌, ◌-◌, ◌≤◌, ◌^◌, List, [], ◌∷◌, ◌++◌, is_err, None, Some, min, length, take, not, IsTrue, IsOk, IsErr, IfOk, OnOk, OnErr, option_map, option_copied};
 ghost use Rattle.mt_outside.specs.Faults.{Rose};
 ghost use Rattle.mt_outside.specs.Told.{added};
 ghost use Rattle.mt_outside.specs.Files.{Holds, Lacks, Reads, emptied, replaced, grown, file_of};
@@ -65,6 +65,22 @@ impl MemoryFiles {
     {
         self.shelf.content(name)
     }
+
+    /// Begins a call of `FileStore`, which may be one that is to fail.
+    fn begin(&mut self, name: &str) -> Result<(), Failed>
+        ensures same { self.new ≡ record self.old { names = self.old.names ++ name.now ∷ [];
+            next = min (self.old.next + 1) (2 ^ 64 - 1); faults = self.new.faults } }
+        ensures answer { is_err result ≡ fails_at self.old.fails self.old.next }
+        ensures counts { OnOk result (self.new.faults ≡ self.old.faults) }
+        ensures later { self.old.faults ≤ self.new.faults }
+        ensures cause { OnErr result (Rose self.old.faults self.new.faults) }
+    {
+        self.names.add(name.as_bytes());
+        if self.plan.is_to_fail() {
+            return Err(self.faults.raise());
+        }
+        Ok(())
+    }
 }
 
 impl FileStore for MemoryFiles {
@@ -92,10 +108,7 @@ impl FileStore for MemoryFiles {
         ensures fails { self.new.fails ≡ self.old.fails }
         ensures next { self.new.next ≡ min (self.old.next + 1) (2 ^ 64 - 1) }
     {
-        self.names.add(name.as_bytes());
-        if self.plan.is_to_fail() {
-            return Err(self.faults.raise());
-        }
+        self.begin(name)?;
         let Some(content) = self.shelf.content(name) else {
             return Err(self.faults.raise());
         };
@@ -115,10 +128,7 @@ impl FileStore for MemoryFiles {
         ensures fails { self.new.fails ≡ self.old.fails }
         ensures next { self.new.next ≡ min (self.old.next + 1) (2 ^ 64 - 1) }
     {
-        self.names.add(name.as_bytes());
-        if self.plan.is_to_fail() {
-            return Err(self.faults.raise());
-        }
+        self.begin(name)?;
         let Ok(()) = self.shelf.put(name, &[]) else {
             return Err(self.faults.raise());
         };
@@ -140,10 +150,7 @@ impl FileStore for MemoryFiles {
         ensures fails { self.new.fails ≡ self.old.fails }
         ensures next { self.new.next ≡ min (self.old.next + 1) (2 ^ 64 - 1) }
     {
-        self.names.add(name.as_bytes());
-        if self.plan.is_to_fail() {
-            return Err(self.faults.raise());
-        }
+        self.begin(name)?;
         let Ok(()) = self.shelf.grow(name, bytes) else {
             return Err(self.faults.raise());
         };
