@@ -14,8 +14,8 @@ pub record Taken : Type 0 where
   pub next : ℕ
   pub faults : ℕ
 
--- a store in memory: its files with their names, the names that its calls were given, the numbers of
--- the calls that are to fail, the number of the next call, and the faults so far
+-- a store in memory: its files with their names, the names that its calls were given, the numbers
+-- of the calls that are to fail, the number of the next call, and the faults so far
 pub record Stored : Type 0 where
   pub files : List (List ℕ × List ℕ)
   pub names : List (List ℕ)

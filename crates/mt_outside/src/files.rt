@@ -27,7 +27,8 @@ pub trait FileStore {
         ensures never_falls { faults self.old ≤ faults self.new }
         ensures cause { OnErr result (Rose (faults self.old) (faults self.new)) }
         ensures bound { IfOk result (λ n. n ≤ length out.new) }
-        ensures bytes { (content : List ℕ) → Holds (told self.old) name.now content → IfOk result (λ n. Reads content at n out.new) }
+        ensures bytes { (content : List ℕ) → Holds (told self.old) name.now content →
+            IfOk result (λ n. Reads content at n out.new) }
         ensures missing { Lacks (told self.old) name.now → IsErr result }
         ensures same { told self.new ≡ told self.old }
         ensures name { named self.new ≡ added (named self.old) (name.now ∷ []) };
@@ -36,7 +37,8 @@ pub trait FileStore {
     fn create(&mut self, name: &str) -> Result<(), Failed>
         ensures never_falls { faults self.old ≤ faults self.new }
         ensures cause { OnErr result (Rose (faults self.old) (faults self.new)) }
-        ensures emptied { OnOk result (told self.new ≡ option_map (emptied name.now) (told self.old)) }
+        ensures emptied { OnOk result
+            (told self.new ≡ option_map (emptied name.now) (told self.old)) }
         ensures same { OnErr result (told self.new ≡ told self.old) }
         ensures name { named self.new ≡ added (named self.old) (name.now ∷ []) };
 
@@ -45,8 +47,10 @@ pub trait FileStore {
     fn append(&mut self, name: &str, bytes: &[u8]) -> Result<(), Failed>
         ensures never_falls { faults self.old ≤ faults self.new }
         ensures cause { OnErr result (Rose (faults self.old) (faults self.new)) }
-        ensures grown { OnOk result (told self.new ≡ option_map (grown name.now bytes.now) (told self.old)) }
-        ensures prefix { (k : ℕ) × (told self.new ≡ option_map (grown name.now (take k bytes.now)) (told self.old)) }
+        ensures grown { OnOk result
+            (told self.new ≡ option_map (grown name.now bytes.now) (told self.old)) }
+        ensures prefix { (k : ℕ) ×
+            (told self.new ≡ option_map (grown name.now (take k bytes.now)) (told self.old)) }
         ensures missing { Lacks (told self.old) name.now → IsErr result }
         ensures name { named self.new ≡ added (named self.old) (name.now ∷ []) };
 }

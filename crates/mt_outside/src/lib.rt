@@ -4,7 +4,7 @@
 //!
 //! Below it stand `std` and `mt_base`. What the crates above use are the clauses of the traits: a
 //! count of faults that never falls and rises where a call fails, and what a device tells of its
-//! bytes, where it tells it. `read_file` and `write_all` carry them over whole files and whole texts.
+//! bytes, where it tells it. `read_file` and `write_all` carry them over whole files and texts.
 #![tactic(auto)]
 
 mod failed;
@@ -28,3 +28,6 @@ pub use real_files::RealFiles;
 pub use real_sink::RealSink;
 pub use sink::Sink;
 pub use whole::{read_file, write_all};
+
+#[cfg(test)]
+mod tests;

@@ -1,6 +1,6 @@
 //! A store that keeps its files in memory.
 
-ghost use Rattle.std.specs.Prelude.{◌≡◌, ℕ, ◌+◌, ◌-◌, ◌≤◌, ◌^◌, List, [], ◌∷◌, None, Some, min, length, take, IsTrue, IsErr, IfOk, OnOk, OnErr, option_map, option_copied};
+ghost use Rattle.std.specs.Prelude.{◌≡◌, ℕ, ◌+◌, ◌-◌, ◌≤◌, ◌^◌, List, [], ◌∷◌, ◌++◌, is_err, None, Some, min, length, take, not, IsTrue, IsOk, IsErr, IfOk, OnOk, OnErr, option_map, option_copied};
 ghost use Rattle.mt_outside.specs.Faults.{Rose};
 ghost use Rattle.mt_outside.specs.Told.{added};
 ghost use Rattle.mt_outside.specs.Files.{Holds, Lacks, Reads, emptied, replaced, grown, file_of};
@@ -29,14 +29,16 @@ pub struct MemoryFiles {
 impl Model for MemoryFiles {
     ghost Value = { Stored };
 
-    ghost view = { λ s. record { files = s.shelf; names = s.names.list; fails = s.plan.fails.items; next = s.plan.next; faults = s.faults.count } };
+    ghost view = { λ s. record { files = s.shelf; names = s.names.list;
+        fails = s.plan.fails.items; next = s.plan.next; faults = s.faults.count } };
 }
 
 impl MemoryFiles {
     /// A store with no files. `fails` holds the numbers, from 0, of the calls of `FileStore` that
     /// are to fail.
     pub fn new(alloc: Global, fails: Vec<u64>) -> MemoryFiles
-        ensures { result ≡ record { files = []; names = []; fails = fails.items; next = 0; faults = 0 } }
+        ensures { result ≡ record { files = []; names = []; fails = fails.items;
+            next = 0; faults = 0 } }
     {
         MemoryFiles {
             shelf: Shelf::new(alloc),
@@ -49,7 +51,8 @@ impl MemoryFiles {
     /// Makes or replaces a file. It is no call of `FileStore`. Where no memory is found nothing
     /// changes.
     pub fn put(&mut self, name: &str, bytes: &[u8]) -> Result<(), NoMemory>
-        ensures put { OnOk result (file_of self.new.files ≡ replaced name.now bytes.now (file_of self.old.files)) }
+        ensures put { OnOk result
+            (file_of self.new.files ≡ replaced name.now bytes.now (file_of self.old.files)) }
         ensures same { self.new ≡ record self.old { files = self.new.files } }
         ensures err { OnErr result (self.new ≡ self.old) }
     {
@@ -61,6 +64,22 @@ impl MemoryFiles {
         ensures { option_copied result ≡ file_of self.now.files name.now }
     {
         self.shelf.content(name)
+    }
+
+    /// Begins a call of `FileStore`, which may be one that is to fail.
+    fn begin(&mut self, name: &str) -> Result<(), Failed>
+        ensures same { self.new ≡ record self.old { names = self.old.names ++ name.now ∷ [];
+            next = min (self.old.next + 1) (2 ^ 64 - 1); faults = self.new.faults } }
+        ensures answer { is_err result ≡ fails_at self.old.fails self.old.next }
+        ensures counts { OnOk result (self.new.faults ≡ self.old.faults) }
+        ensures later { self.old.faults ≤ self.new.faults }
+        ensures cause { OnErr result (Rose self.old.faults self.new.faults) }
+    {
+        self.names.add(name.as_bytes());
+        if self.plan.is_to_fail() {
+            return Err(self.faults.raise());
+        }
+        Ok(())
     }
 }
 
@@ -75,19 +94,21 @@ impl FileStore for MemoryFiles {
         ensures never_falls { self.old.faults ≤ self.new.faults }
         ensures cause { OnErr result (Rose self.old.faults self.new.faults) }
         ensures bound { IfOk result (λ n. n ≤ length out.new) }
-        ensures bytes { (content : List ℕ) → Holds (Some (file_of self.old.files)) name.now content → IfOk result (λ n. Reads content at n out.new) }
+        ensures bytes { (content : List ℕ) →
+            Holds (Some (file_of self.old.files)) name.now content →
+            IfOk result (λ n. Reads content at n out.new) }
         ensures missing { Lacks (Some (file_of self.old.files)) name.now → IsErr result }
         ensures same { Some (file_of self.new.files) ≡ Some (file_of self.old.files) }
         ensures name { Some self.new.names ≡ added (Some self.old.names) (name.now ∷ []) }
         ensures planned { IsTrue (fails_at self.old.fails self.old.next) → IsErr result }
+        ensures answers { IsTrue (not (fails_at self.old.fails self.old.next)) →
+            (content : List ℕ) → Holds (Some (file_of self.old.files)) name.now content → IsOk result }
         ensures files { self.new.files ≡ self.old.files }
+        ensures counts { OnOk result (self.new.faults ≡ self.old.faults) }
         ensures fails { self.new.fails ≡ self.old.fails }
         ensures next { self.new.next ≡ min (self.old.next + 1) (2 ^ 64 - 1) }
     {
-        self.names.add(name.as_bytes());
-        if self.plan.is_to_fail() {
-            return Err(self.faults.raise());
-        }
+        self.begin(name)?;
         let Some(content) = self.shelf.content(name) else {
             return Err(self.faults.raise());
         };
@@ -97,17 +118,17 @@ impl FileStore for MemoryFiles {
     fn create(&mut self, name: &str) -> Result<(), Failed>
         ensures never_falls { self.old.faults ≤ self.new.faults }
         ensures cause { OnErr result (Rose self.old.faults self.new.faults) }
-        ensures emptied { OnOk result (Some (file_of self.new.files) ≡ option_map (emptied name.now) (Some (file_of self.old.files))) }
-        ensures same { OnErr result (Some (file_of self.new.files) ≡ Some (file_of self.old.files)) }
+        ensures emptied { OnOk result (Some (file_of self.new.files) ≡
+            option_map (emptied name.now) (Some (file_of self.old.files))) }
+        ensures same { OnErr result
+            (Some (file_of self.new.files) ≡ Some (file_of self.old.files)) }
         ensures name { Some self.new.names ≡ added (Some self.old.names) (name.now ∷ []) }
         ensures planned { IsTrue (fails_at self.old.fails self.old.next) → IsErr result }
+        ensures counts { OnOk result (self.new.faults ≡ self.old.faults) }
         ensures fails { self.new.fails ≡ self.old.fails }
         ensures next { self.new.next ≡ min (self.old.next + 1) (2 ^ 64 - 1) }
     {
-        self.names.add(name.as_bytes());
-        if self.plan.is_to_fail() {
-            return Err(self.faults.raise());
-        }
+        self.begin(name)?;
         let Ok(()) = self.shelf.put(name, &[]) else {
             return Err(self.faults.raise());
         };
@@ -117,19 +138,19 @@ impl FileStore for MemoryFiles {
     fn append(&mut self, name: &str, bytes: &[u8]) -> Result<(), Failed>
         ensures never_falls { self.old.faults ≤ self.new.faults }
         ensures cause { OnErr result (Rose self.old.faults self.new.faults) }
-        ensures grown { OnOk result (Some (file_of self.new.files) ≡ option_map (grown name.now bytes.now) (Some (file_of self.old.files))) }
-        ensures prefix { (k : ℕ) × (Some (file_of self.new.files) ≡ option_map (grown name.now (take k bytes.now)) (Some (file_of self.old.files))) }
+        ensures grown { OnOk result (Some (file_of self.new.files) ≡
+            option_map (grown name.now bytes.now) (Some (file_of self.old.files))) }
+        ensures prefix { (k : ℕ) × (Some (file_of self.new.files) ≡
+            option_map (grown name.now (take k bytes.now)) (Some (file_of self.old.files))) }
         ensures missing { Lacks (Some (file_of self.old.files)) name.now → IsErr result }
         ensures name { Some self.new.names ≡ added (Some self.old.names) (name.now ∷ []) }
         ensures planned { IsTrue (fails_at self.old.fails self.old.next) → IsErr result }
         ensures same { OnErr result (self.new.files ≡ self.old.files) }
+        ensures counts { OnOk result (self.new.faults ≡ self.old.faults) }
         ensures fails { self.new.fails ≡ self.old.fails }
         ensures next { self.new.next ≡ min (self.old.next + 1) (2 ^ 64 - 1) }
     {
-        self.names.add(name.as_bytes());
-        if self.plan.is_to_fail() {
-            return Err(self.faults.raise());
-        }
+        self.begin(name)?;
         let Ok(()) = self.shelf.grow(name, bytes) else {
             return Err(self.faults.raise());
         };

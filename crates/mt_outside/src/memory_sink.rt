@@ -1,6 +1,6 @@
 //! A sink that keeps its bytes in memory.
 
-ghost use Rattle.std.specs.Prelude.{◌≡◌, ℕ, ◌+◌, ◌-◌, ◌<◌, ◌≤◌, ◌^◌, [], Some, min, length, take, IsTrue, IsErr, IfOk, OnErr};
+ghost use Rattle.std.specs.Prelude.{◌≡◌, ℕ, ◌+◌, ◌-◌, ◌<◌, ◌≤◌, ◌^◌, [], Some, min, length, take, IsTrue, IsErr, IfOk, OnOk, OnErr};
 ghost use Rattle.mt_outside.specs.Faults.{Rose};
 ghost use Rattle.mt_outside.specs.Told.{added};
 ghost use Rattle.mt_outside.specs.Memory.{Taken, fails_at};
@@ -24,7 +24,8 @@ pub struct MemorySink {
 impl Model for MemorySink {
     ghost Value = { Taken };
 
-    ghost view = { λ s. record { bytes = s.bytes.items; fails = s.plan.fails.items; next = s.plan.next; faults = s.faults.count } };
+    ghost view = { λ s. record { bytes = s.bytes.items; fails = s.plan.fails.items;
+        next = s.plan.next; faults = s.faults.count } };
 }
 
 impl MemorySink {
@@ -58,10 +59,12 @@ impl Sink for MemorySink {
         ensures cause { OnErr result (Rose self.old.faults self.new.faults) }
         ensures bound { IfOk result (λ n. n ≤ length bytes.now) }
         ensures some { IfOk result (λ n. 0 < length bytes.now → 0 < n) }
-        ensures took { IfOk result (λ n. Some self.new.bytes ≡ added (Some self.old.bytes) (take n bytes.now)) }
+        ensures took { IfOk result (λ n.
+            Some self.new.bytes ≡ added (Some self.old.bytes) (take n bytes.now)) }
         ensures same { OnErr result (Some self.new.bytes ≡ Some self.old.bytes) }
         ensures whole { IfOk result (λ n. n ≡ length bytes.now) }
         ensures planned { IsTrue (fails_at self.old.fails self.old.next) → IsErr result }
+        ensures counts { OnOk result (self.new.faults ≡ self.old.faults) }
         ensures fails { self.new.fails ≡ self.old.fails }
         ensures next { self.new.next ≡ min (self.old.next + 1) (2 ^ 64 - 1) }
     {

@@ -69,7 +69,8 @@ impl Shelf {
 
     /// Makes or replaces a file. Where no memory is found nothing changes.
     pub(crate) fn put(&mut self, name: &str, bytes: &[u8]) -> Result<(), NoMemory>
-        ensures put { OnOk result (file_of self.new ≡ replaced name.now bytes.now (file_of self.old)) }
+        ensures put { OnOk result
+            (file_of self.new ≡ replaced name.now bytes.now (file_of self.old)) }
         ensures same { OnErr result (self.new ≡ self.old) }
     {
         let Ok(bytes) = Vec::from_slice(self.alloc, bytes) else {
@@ -88,10 +89,11 @@ impl Shelf {
         Ok(())
     }
 
-    /// Writes bytes at the end of a file. Where there is none, or no memory is found, it is `Failed`
-    /// and nothing changes.
+    /// Writes bytes at the end of a file. Where there is none, or no memory is found, it is
+    /// `Failed` and nothing changes.
     pub(crate) fn grow(&mut self, name: &str, bytes: &[u8]) -> Result<(), Failed>
-        ensures grown { OnOk result (file_of self.new ≡ grown name.now bytes.now (file_of self.old)) }
+        ensures grown { OnOk result
+            (file_of self.new ≡ grown name.now bytes.now (file_of self.old)) }
         ensures same { OnErr result (self.new ≡ self.old) }
         ensures missing { file_of self.old name.now ≡ None → IsErr result }
     {

@@ -22,6 +22,7 @@ pub trait Sink {
         ensures cause { OnErr result (Rose (faults self.old) (faults self.new)) }
         ensures bound { IfOk result (λ n. n ≤ length bytes.now) }
         ensures some { IfOk result (λ n. 0 < length bytes.now → 0 < n) }
-        ensures took { IfOk result (λ n. written self.new ≡ added (written self.old) (take n bytes.now)) }
+        ensures took { IfOk result (λ n.
+            written self.new ≡ added (written self.old) (take n bytes.now)) }
         ensures same { OnErr result (written self.new ≡ written self.old) };
 }

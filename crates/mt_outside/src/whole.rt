@@ -26,13 +26,17 @@ pub fn read_file<F: FileStore>(
     limit: u64,
 ) -> Result<Vec<u8>, ReadFault>
     ensures never_falls { F.faults files.old ≤ F.faults files.new }
-    ensures cause { IsErrOf result ReadFault.Failed → Rose (F.faults files.old) (F.faults files.new) }
-    ensures content { (content : List ℕ) → Holds (F.told files.old) name.now content → IfOk result (λ bytes. bytes.items ≡ content) }
+    ensures cause { IsErrOf result ReadFault.Failed →
+        Rose (F.faults files.old) (F.faults files.new) }
+    ensures content { (content : List ℕ) → Holds (F.told files.old) name.now content →
+        IfOk result (λ bytes. bytes.items ≡ content) }
     ensures missing { Lacks (F.told files.old) name.now → IsErrOf result ReadFault.Failed }
     ensures within { IfOk result (λ bytes. vec_len bytes ≤ limit) }
-    ensures too_long { (content : List ℕ) → Holds (F.told files.old) name.now content → IsErrOf result ReadFault.TooLong → limit < length content }
+    ensures too_long { (content : List ℕ) → Holds (F.told files.old) name.now content →
+        IsErrOf result ReadFault.TooLong → limit < length content }
     ensures same { F.told files.new ≡ F.told files.old }
-    ensures names { (k : ℕ) × (F.named files.new ≡ added (F.named files.old) (replicate k name.now)) }
+    ensures names { (k : ℕ) ×
+        (F.named files.new ≡ added (F.named files.old) (replicate k name.now)) }
 {
     let mut bytes = Vec::new(alloc);
     let mut piece = [0u8; PIECE];
@@ -58,7 +62,8 @@ pub fn write_all<K: Sink>(sink: &mut K, bytes: &[u8]) -> Result<(), Failed>
     ensures never_falls { K.faults sink.old ≤ K.faults sink.new }
     ensures cause { OnErr result (Rose (K.faults sink.old) (K.faults sink.new)) }
     ensures all { OnOk result (K.written sink.new ≡ added (K.written sink.old) bytes.now) }
-    ensures prefix { OnErr result ((k : ℕ) × (k < length bytes.now) × (K.written sink.new ≡ added (K.written sink.old) (take k bytes.now))) }
+    ensures prefix { OnErr result ((k : ℕ) × (k < length bytes.now) ×
+        (K.written sink.new ≡ added (K.written sink.old) (take k bytes.now))) }
 {
     let mut rest = bytes;
     while !rest.is_empty() {
