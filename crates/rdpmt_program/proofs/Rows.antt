@@ -33,11 +33,20 @@ row_of ws told before after (Err Limit) status output h t = limit h t.1 t.0
 -- no row has the status 4
 not_four : {ws : List (List ℕ)} {told : Option Contents} {before after status : ℕ} {output : List ℕ} → Row ws told before after status output → status ≢ 4
 not_four (done text is plays s) four = omega (arith, s, four)
-not_four (usage no out s) four = omega (arith, s, four)
+not_four (usage none out s) four = omega (arith, s, four)
 not_four (refused text is why s) four = omega (arith, s, four)
 not_four (file_fault is rose out s) four = omega (arith, s, four)
 not_four (no_memory is out s) four = omega (arith, s, four)
 not_four (limit passes out s) four = omega (arith, s, four)
+
+-- the row of status 0
+pub of_done : {ws : List (List ℕ)} {told : Option Contents} {before after status : ℕ} {output : List ℕ} → Row ws told before after status output → status ≡ 0 → (text : List ℕ) × IsScript ws told text × PlaysTo text output
+of_done (done text is plays s) zero = (text, is, plays)
+of_done (usage none out s) zero = absurd (omega (arith, s, zero))
+of_done (refused text is why s) zero = absurd (omega (arith, s, zero))
+of_done (file_fault is rose out s) zero = absurd (omega (arith, s, zero))
+of_done (no_memory is out s) zero = absurd (omega (arith, s, zero))
+of_done (limit passes out s) zero = absurd (omega (arith, s, zero))
 
 -- a call with words and a store, of whose row all or a front was printed
 pub record Ended (ws : List (List ℕ)) (told : Option Contents) (before after : ℕ) (answer : ℕ) (old new : Option (List ℕ)) (sink_before sink_after : ℕ) : Type 0 where
@@ -45,6 +54,11 @@ pub record Ended (ws : List (List ℕ)) (told : Option Contents) (before after :
   pub output : List ℕ
   pub row : Row ws told before after status output
   pub printed : Printed status output answer old new sink_before sink_after
+
+pub ended_of : (ws : List (List ℕ)) (told : Option Contents) (before after : ℕ) (result : Result (List ℕ) Fault) (answer : ℕ) (old new : Option (List ℕ)) (sink_before sink_after : ℕ) → Runs ws told before after result
+    → (status : ℕ) × (output : List ℕ) × Tells result status output × Printed status output answer old new sink_before sink_after → Ended ws told before after answer old new sink_before sink_after
+ended_of ws told before after result answer old new sink_before sink_after runs t =
+    record { status = t.0; output = t.1; row = row_of ws told before after result t.0 t.1 runs t.2; printed = t.3 }
 
 module _ {ws : List (List ℕ)} {told : Option Contents} {before after answer : ℕ} {old new : Option (List ℕ)} {sink_before sink_after : ℕ} where
   pub answered : Ended ws told before after answer old new sink_before sink_after → answer ≢ 4 → (output : List ℕ) × Row ws told before after answer output × (new ≡ added old output)
@@ -62,6 +76,14 @@ module _ {ws : List (List ℕ)} {told : Option Contents} {before after answer : 
         | inr h ↦ (h.1, e.status, e.output, e.row, h.2, h.3)
       ]
 
+  pub played_to_end : Ended ws told before after answer old new sink_before sink_after → answer ≡ 0
+      → (text : List ℕ) × (output : List ℕ) × IsScript ws told text × PlaysTo text output × (new ≡ added old output)
+  played_to_end e zero =
+      elim e.printed [
+        | inl h ↦ (let d = of_done e.row (sym h.0 ∙ zero) in (d.0, e.output, d.1, d.2, h.1))
+        | inr h ↦ absurd (omega (arith, h.0, zero))
+      ]
+
   -- a fact of the status that is answered, where it holds of 4 and of the row's status
   pub either : Ended ws told before after answer old new sink_before sink_after → (P : ℕ → Type 0) → ((status : ℕ) (output : List ℕ) → Row ws told before after status output → P status) → (Rose sink_before sink_after → P 4) → P answer
   either e P of_row of_four =
@@ -70,23 +92,14 @@ module _ {ws : List (List ℕ)} {told : Option Contents} {before after answer : 
         | inr h ↦ subst P (sym h.0) (of_four h.1)
       ]
 
--- the row of status 0
-pub of_done : {ws : List (List ℕ)} {told : Option Contents} {before after status : ℕ} {output : List ℕ} → Row ws told before after status output → status ≡ 0 → (text : List ℕ) × IsScript ws told text × PlaysTo text output
-of_done (done text is plays s) zero = (text, is, plays)
-of_done (usage no out s) zero = absurd (omega (arith, s, zero))
-of_done (refused text is why s) zero = absurd (omega (arith, s, zero))
-of_done (file_fault is rose out s) zero = absurd (omega (arith, s, zero))
-of_done (no_memory is out s) zero = absurd (omega (arith, s, zero))
-of_done (limit passes out s) zero = absurd (omega (arith, s, zero))
-
 -- words that are no command's
 pub of_usage : {ws : List (List ℕ)} {told : Option Contents} {before after : ℕ} → ¬ IsCommand ws → (status : ℕ) (output : List ℕ) → Row ws told before after status output → (status ≡ 1) ⊎ (status ≡ 4)
-of_usage no status output (done text is plays s) = absurd (no (is.script, is.named))
-of_usage no status output (usage none out s) = inl s
-of_usage no status output (refused text is why s) = absurd (no (is.script, is.named))
-of_usage no status output (file_fault is rose out s) = absurd (no is)
-of_usage no status output (no_memory is out s) = absurd (no is)
-of_usage no status output (limit passes out s) = absurd (no (passes.script, passes.named))
+of_usage foreign status output (done text is plays s) = absurd (foreign (is.script, is.named))
+of_usage foreign status output (usage none out s) = inl s
+of_usage foreign status output (refused text is why s) = absurd (foreign (is.script, is.named))
+of_usage foreign status output (file_fault is rose out s) = absurd (foreign is)
+of_usage foreign status output (no_memory is out s) = absurd (foreign is)
+of_usage foreign status output (limit passes out s) = absurd (foreign (passes.script, passes.named))
 
 -- the words name one script
 one_name : (ws : List (List ℕ)) (a b : List ℕ) → IsPlay ws a → IsPlay ws b → a ≡ b
@@ -116,17 +129,17 @@ pub of_limit : {ws : List (List ℕ)} {told : Option Contents} {before after : �
     → Row ws told before after status output → (status ≡ 11) ⊎ (status ≡ 3) ⊎ (status ≡ 4) ⊎ (status ≡ 9)
 of_limit content names long status output (done text is plays s) =
     absurd (within text is.fits plays.reads.0 (subst IsTooLong (sym (told_text _ _ text content is names)) long))
-of_limit content names long status output (usage no out s) = absurd (no (names.script, names.named))
+of_limit content names long status output (usage none out s) = absurd (none (names.script, names.named))
 of_limit content names long status output (refused text is why s) =
     absurd (within text is.fits (refused_short text output why) (subst IsTooLong (sym (told_text _ _ text content is names)) long))
-of_limit content names long status output (file_fault is rose out s) = inl (inl (inr s))
-of_limit content names long status output (no_memory is out s) = inr s
-of_limit content names long status output (limit passes out s) = inl (inl (inl s))
+of_limit content names long status output (file_fault is rose out s) = inr (inl s)
+of_limit content names long status output (no_memory is out s) = inr (inr (inr s))
+of_limit content names long status output (limit passes out s) = inl s
 
 -- Play ends in one way
 ended_once : {v w : Trace (Role × Entry)} {line : ℕ} {cause : StepRefusal} {a : Trace (Role × Entry) × Ending} → a ≡ (v, Done) → a ≡ (w, RefusedAt line cause) → ⊥
-ended_once {v} {w} {line} {cause} {a} done refused =
-    let e : Done ≡ RefusedAt line cause = ap (λ (x : Trace (Role × Entry) × Ending). x.1) (sym done ∙ refused) in cc
+ended_once {v} {w} {line} {cause} {a} one two =
+    let e : Done ≡ RefusedAt line cause = ap (λ (x : Trace (Role × Entry) × Ending). x.1) (sym one ∙ two) in cc
 
 -- a text that is played to its end is not refused
 not_refused : ((text : List ℕ) (a b : Result (List Line) ScriptRefusal) → ReadsAs text a → ReadsAs text b → a ≡ b) → (text output : List ℕ) → IsPlayable text → ¬ IsRefused text output
@@ -142,7 +155,7 @@ pub of_complete : {ws : List (List ℕ)} {told : Option Contents} {before after 
     → (content : List ℕ) → Names ws told content → IsPlayable content → ¬ Rose before after → (status : ℕ) (output : List ℕ)
     → Row ws told before after status output → (status ≡ 0) ⊎ (status ≡ 9)
 of_complete one content names p calm status output (done text is plays s) = inl s
-of_complete one content names p calm status output (usage no out s) = absurd (no (names.script, names.named))
+of_complete one content names p calm status output (usage none out s) = absurd (none (names.script, names.named))
 of_complete one content names p calm status output (refused text is why s) =
     absurd (not_refused one content output p (subst (λ t. IsRefused t output) (told_text _ _ text content is names) why))
 of_complete one content names p calm status output (file_fault is rose out s) = absurd (calm rose)

@@ -8,13 +8,20 @@ use Rattle.std.specs.Str.{bytes_eq}
 use Rattle.std.proofs.lemmas.Bool.{not-false}
 use Rattle.std.proofs.lemmas.Slice.Eq.{bytes_eq-Decides}
 use Rattle.mt_script.specs.Lines.{lines_of}
-use Rattle.mt_script.specs.Meaning.{line_limit}
+use Rattle.mt_script.specs.Meaning.{ReadsAs, line_limit}
+use Rattle.mt_script.specs.declared.event.Line.{Line}
+use Rattle.mt_base.specs.declared.kinds.Role.{Role}
+use Rattle.mt_base.specs.Trace.{Trace}
+use Rattle.mt_world.specs.Acts.{Entry}
+use Rattle.mt_world.specs.Net.{Safe}
+use Rattle.mt_world.specs.Play.{start, play, Ending, Done}
+use Rattle.mt_world.specs.Report.{report}
 use Rattle.mt_outside.specs.Files.{Contents, Holds, Lacks}
 use Rattle.mt_outside.specs.Told.{added}
 use Rattle.rdpmt_program.specs.declared.fault.Fault.{Fault}
 use Rattle.rdpmt_program.specs.declared.fault.Fault.TheVariants.{Usage, Refused, File, Limit, NoMemory}
 use Rattle.rdpmt_program.specs.Command.{words_of, IsOption, IsPlay}
-use Rattle.rdpmt_program.specs.Script.{IsRefused, byte_limit}
+use Rattle.rdpmt_program.specs.Script.{PlaysTo, IsRefused, byte_limit}
 use Rattle.rdpmt_program.specs.Table.{IsScript, AskedFor}
 use Rattle.rdpmt_program.specs.Fate.{Gives, Runs, Refuses}
 
@@ -67,3 +74,10 @@ asked_copies words old new name k named is = (replicate k name, All-replicate (I
 -- the test of two texts found them equal
 pub same_text : (a b : List ℕ) → not (bytes_eq a b) ≡ false → a ≡ b
 same_text a b e = (bytes_eq-Decides a b).0 (not-false (bytes_eq a b) e)
+
+-- lines that were played to their end, and their report
+pub plays_to : (text output : List ℕ) (script lines : List Line) (list : Trace (Role × Entry)) → lines ≡ script → ReadsAs text (Ok script) → play start lines ≡ (list, Done) → output ≡ report list
+    → Safe (play start script).0 → PlaysTo text output
+plays_to text output script lines list same reads played reported safe =
+    let at : play start script ≡ (list, Done) = sym (ap (play start) same) ∙ played in
+    record { lines = script; list = list; reads = reads; played = at; reported = reported; safe = subst Safe (ap (λ (x : Trace (Role × Entry) × Ending). x.0) at) safe }

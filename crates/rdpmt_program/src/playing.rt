@@ -25,6 +25,21 @@ enum Stop {
     NoMemory,
 }
 
+impl Stop {
+    ghost use Rattle.std.specs.Prelude.{◌≡◌, ◌≢◌};
+
+    /// The stop at a line that this cause stops.
+    fn at(line: u64, cause: StepRefusal) -> Stop
+        ensures memory { cause ≡ StepRefusal.NoMemory → result ≡ Stop.NoMemory }
+        ensures refused { cause ≢ StepRefusal.NoMemory → result ≡ Stop.RefusedAt line cause }
+    {
+        match cause {
+            StepRefusal::NoMemory => Stop::NoMemory,
+            cause => Stop::RefusedAt { line, cause },
+        }
+    }
+}
+
 /// Plays the script of this name, and gives the report.
 pub(crate) fn play_script<F: FileStore>(alloc: Global, files: &mut F, name: &str) -> Result<Text, Fault>
     ensures cause { (words : List (List ℕ)) → IsPlay words name.now → Runs words (F.told files.old) (F.faults files.old) (F.faults files.new) result }
@@ -72,13 +87,7 @@ fn play_lines(alloc: Global, lines: &[Line]) -> Result<World, Stop>
     for line in lines {
         match world.step(&line.event) {
             Ok(()) => {}
-            Err(StepRefusal::NoMemory) => return Err(Stop::NoMemory),
-            Err(cause) => {
-                return Err(Stop::RefusedAt {
-                    line: line.number,
-                    cause,
-                });
-            }
+            Err(cause) => return Err(Stop::at(line.number, cause)),
         }
     }
     Ok(world)

@@ -1,7 +1,7 @@
 use Rattle.std.proofs.Common.{refl, sym, ap, ◌∙◌}
 use Rattle.mt_world.specs.Play.{start, play}
 use Rattle.rdpmt_program.specs.Script.{command, words, step, refused_line, step_reason}
-use Rattle.rdpmt_program.proofs.Runs.{gives_refusal}
+use Rattle.rdpmt_program.proofs.Runs.{gives_refusal, plays_to}
 use Rattle.rdpmt_program.proofs.playing.play_text.Goals as goal
 
 pub returns-in-Err-BadCommand : goal.returns-in-Err-BadCommand
@@ -20,3 +20,8 @@ returns-in-Err-RefusedAt c =
     let lines = c.lines.ensures in
     gives_refusal c.args.text.now _ c.refused-in-Err-RefusedAt.result c.refused-in-Err-RefusedAt.ensures
     (step _ stopped.0 c.in-Err-RefusedAt.line c.in-Err-RefusedAt.cause c.in-Ok.ensures (sym (ap (play start) lines) ∙ stopped.1) (ap (refused_line c.in-Err-RefusedAt.line) c.reason.ensures))
+
+pub returns-in-Ok-report : goal.returns-in-Ok-report
+returns-in-Ok-report c =
+    let p = c.in-Ok-play_lines.ensures in
+    plays_to c.args.text.now c.in-Ok-report.report c.in-Ok.script c.lines.result.now p.0 c.lines.ensures c.in-Ok.ensures p.1 (c.in-Ok-report.ensures p.0 p.2) (c.plays_safely.ensures.safe c.args.text.now c.in-Ok.script c.in-Ok.ensures)
