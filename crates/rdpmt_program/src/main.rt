@@ -38,3 +38,6 @@ fn main(rt: HostRuntime) -> ExitCode {
     let mut out = RealSink::new(&rt);
     ExitCode::from(top::rdpmt(rt.alloc(), &words, &mut files, &mut out))
 }
+
+#[cfg(test)]
+mod tests;
