@@ -1,13 +1,12 @@
 -- Lemmas on passing over fields by their lengths.
-use Rattle.std.proofs.Common.{◌≡◌, ℕ, zero, suc, ◌+◌, ◌-◌, ◌<◌, ◌≤◌, Bool, true, false, cond, ltb, List, [], ◌∷◌, ◌++◌, length, map, drop, replicate, Option, Some, None, Result, Ok, Err, refl, sym, ap, ◌∙◌, subst, arith}
+use Rattle.std.proofs.Common.{◌≡◌, ℕ, suc, ◌+◌, ◌-◌, ◌<◌, ◌≤◌, Bool, true, false, cond, ltb, List, [], ◌∷◌, ◌++◌, length, map, drop, replicate, Result, Ok, Err, refl, sym, ap, ◌∙◌, arith}
 use Rattle.std.proofs.lemmas.List.{length-append, length-drop}
 use Rattle.byteorder.specs.Endian.{little_bytes}
 use Rattle.mt_base.specs.declared.errors.NoRoom.{NoRoom}
 use Rattle.std.specs.Result.{OnOk, IfErr}
-use Rattle.mt_base.specs.Writing.{Spot, put, puts, then_put, joined}
+use Rattle.mt_base.specs.Writing.{Spot, puts, then_put, joined}
 use Rattle.mt_base.proofs.Fill.{puts_filled, puts_fit}
 use Rattle.dvc_pdus.specs.Space.{Space, pass, passes, then_pass, Passes}
-use Rattle.dvc_pdus.specs.Value.{charge_fields}
 
 -- a charge has two bytes
 pub charge_lengths : (charges : List ℕ) → map length (map (little_bytes 2) charges) ≡ replicate (length charges) 2
@@ -62,9 +61,9 @@ pub record RoomFound (fs : List (List ℕ)) (out : List ℕ) (r : Result (Unit {
 pub room_found : (fs : List (List ℕ)) (out : List ℕ) (first last : Space) (r : Result (Unit {0}) NoRoom) → first ≡ record { before = 0; behind = length out }
     → Passes last r (passes (map length fs) first) → RoomFound fs out r
 room_found fs out first last (Ok x) starts passed = record {
-    found = by_written (puts fs start) refl;
-    refused = tt;
-  }
+  found = by_written (puts fs start) refl;
+  refused = tt;
+}
   where
     start : Spot
     start = record { before = []; after = out }
@@ -79,9 +78,9 @@ room_found fs out first last (Ok x) starts passed = record {
         none : (e : NoRoom) → (let refuse : Result Space NoRoom = Err e in refuse ≡ Ok last) → ⊥
         none e h = cc
 room_found fs out first last (Err e) starts passed = record {
-    found = tt;
-    refused = by_result (puts fs (record { before = []; after = out })) (sym (sized fs (record { before = []; after = out })) ∙ ap (passes (map length fs)) (sym starts) ∙ passed);
-  }
+  found = tt;
+  refused = by_result (puts fs (record { before = []; after = out })) (sym (sized fs (record { before = []; after = out })) ∙ ap (passes (map length fs)) (sym starts) ∙ passed);
+}
   where
     by_result : (w : Result Spot NoRoom) → counted w ≡ Err e → w ≡ Err e
     by_result (Ok s) h = cc

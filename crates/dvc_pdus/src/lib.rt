@@ -13,7 +13,7 @@ mod read;
 mod room;
 mod write;
 
-pub use laws::{one_meaning, written_is_read};
+pub use laws::{one_meaning, reading_by_layout, written_is_read};
 pub use pdu::{DvcPdu, DvcRefusal};
 pub use read::read_dvc;
 pub use write::write_dvc;

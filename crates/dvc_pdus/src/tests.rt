@@ -1,10 +1,10 @@
-use super::*;
-use mt_base::{NoRoom, Role, Short};
-use std::test::*;
-
 ghost use Rattle.dvc_pdus.specs.Value.{Fits};
 ghost use Rattle.dvc_pdus.specs.Views.{pdu_of};
 ghost use Rattle.mt_base.specs.declared.kinds.Role.{Role};
+
+use super::*;
+use mt_base::{NoRoom, Role, Short};
+use std::test::*;
 
 fn short(at: usize, need: usize) -> DvcRefusal {
     DvcRefusal::Short(Short { at, need })
@@ -40,7 +40,10 @@ fn refuses_at_the_first_fault(rt: HostRuntime) {
         (&[0x50, 0, 3, 0, 1], short(4, 2)),
         (&[0x50, 0, 3, 0, 1, 2, 3], short(6, 2)),
         (&[0x50, 0, 3, 0, 1, 2, 3, 4, 5, 6, 7], short(10, 2)),
-        (&[0x50, 0, 3, 0, 1, 2, 3, 4, 5, 6, 7, 8, 9], DvcRefusal::Trailing { at: 12 }),
+        (
+            &[0x50, 0, 3, 0, 1, 2, 3, 4, 5, 6, 7, 8, 9],
+            DvcRefusal::Trailing { at: 12 },
+        ),
     ];
     for (bytes, refusal) in from_server {
         assert_eq!(rt; read_dvc(Role::Server, bytes), Err(refusal), "at {bytes:?}");
@@ -61,7 +64,10 @@ fn refuses_at_the_first_fault(rt: HostRuntime) {
 
 #[test]
 fn reads_each_pdu(rt: HostRuntime) {
-    let caps = |charges| Ok(DvcPdu::Caps { version: 3, charges });
+    let caps = |charges| Ok(DvcPdu::Caps {
+        version: 3,
+        charges,
+    });
     for from in [Role::Server, Role::Client] {
         assert_eq!(rt; read_dvc(from, &[0x50, 0, 3, 0]), caps(None));
         assert_eq!(rt; read_dvc(from, &[0x5f, 7, 3, 0]), caps(None));
@@ -70,9 +76,15 @@ fn reads_each_pdu(rt: HostRuntime) {
             caps(Some([1, 2, 3, 0x400]))
         );
         let data = |id, bytes| Ok(DvcPdu::Data { id, bytes });
-        assert_eq!(rt; read_dvc(from, &[0x30, 1, 0x61, 0x62, 0x63]), data(1, b"abc"));
+        assert_eq!(rt;
+            read_dvc(from, &[0x30, 1, 0x61, 0x62, 0x63]),
+            data(1, b"abc")
+        );
         assert_eq!(rt; read_dvc(from, &[0x3d, 1, 2]), data(0x0201, b""));
-        assert_eq!(rt; read_dvc(from, &[0x32, 1, 2, 3, 4, 0]), data(0x0403_0201, &[0]));
+        assert_eq!(rt;
+            read_dvc(from, &[0x32, 1, 2, 3, 4, 0]),
+            data(0x0403_0201, &[0])
+        );
     }
 }
 
@@ -81,9 +93,15 @@ fn reads_what_creates_a_channel(rt: HostRuntime) {
     let request = |id, priority, name| Ok(DvcPdu::CreateRequest { id, priority, name });
     let files = [0x10, 1, 0x66, 0x69, 0x6c, 0x65, 0x73, 0];
     assert_eq!(rt; read_dvc(Role::Server, &files), request(1, 0, b"files"));
-    assert_eq!(rt; read_dvc(Role::Server, &[0x1d, 1, 2, 0x7e, 0]), request(0x0201, 3, b"~"));
+    assert_eq!(rt;
+        read_dvc(Role::Server, &[0x1d, 1, 2, 0x7e, 0]),
+        request(0x0201, 3, b"~")
+    );
     let response = |id, status| Ok(DvcPdu::CreateResponse { id, status });
-    assert_eq!(rt; read_dvc(Role::Client, &[0x10, 1, 0, 0, 0, 0]), response(1, 0));
+    assert_eq!(rt;
+        read_dvc(Role::Client, &[0x10, 1, 0, 0, 0, 0]),
+        response(1, 0)
+    );
     assert_eq!(rt;
         read_dvc(Role::Client, &[0x1d, 1, 0, 5, 0, 7, 0x80]),
         response(1, 0x8007_0005)
@@ -99,9 +117,15 @@ fn takes_names_up_to_255_bytes(rt: HostRuntime) {
         read_dvc(Role::Server, &bytes[..257]),
         Err(DvcRefusal::NameNotEnded { at: 257 })
     );
-    assert_eq!(rt; read_dvc(Role::Server, &bytes[..258]), Err(DvcRefusal::BadName { at: 257 }));
+    assert_eq!(rt;
+        read_dvc(Role::Server, &bytes[..258]),
+        Err(DvcRefusal::BadName { at: 257 })
+    );
     bytes[258] = 0;
-    assert_eq!(rt; read_dvc(Role::Server, &bytes), Err(DvcRefusal::BadName { at: 257 }));
+    assert_eq!(rt;
+        read_dvc(Role::Server, &bytes),
+        Err(DvcRefusal::BadName { at: 257 })
+    );
     bytes[257] = 0;
     assert_eq!(rt;
         read_dvc(Role::Server, &bytes[..258]),
@@ -140,7 +164,10 @@ fn writes(pdu: &DvcPdu<'_>, want: &[u8]) -> bool
 #[test]
 fn writes_each_pdu(rt: HostRuntime) {
     let charges = Some([0; 4]);
-    let server = DvcPdu::Caps { version: 3, charges };
+    let server = DvcPdu::Caps {
+        version: 3,
+        charges,
+    };
     assert!(rt; writes(&server, &[0x50, 0, 3, 0, 0, 0, 0, 0, 0, 0, 0, 0]));
     let client = DvcPdu::Caps {
         version: 3,
@@ -179,7 +206,10 @@ fn writes_nothing_without_room(rt: HostRuntime) {
     };
     for (room, at, need) in [(0, 0, 1), (1, 1, 1), (2, 2, 3), (4, 2, 3)] {
         let mut out = [0xff; 4];
-        assert_eq!(rt; write_dvc(&data, &mut out[..room]), Err(NoRoom { at, need }));
+        assert_eq!(rt;
+            write_dvc(&data, &mut out[..room]),
+            Err(NoRoom { at, need })
+        );
         assert_eq!(rt; out, [0xff; 4]);
     }
     one_meaning();
