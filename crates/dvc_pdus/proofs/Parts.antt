@@ -7,17 +7,13 @@ use Rattle.std.proofs.Math.Seq.{take-append-add}
 use Rattle.std.proofs.lemmas.List.Elements.{All-cons, All-nil, All-head, All-tail}
 use Rattle.mt_base.specs.Reading.{Left, past}
 use Rattle.mt_base.proofs.Numbers.{IsBytes}
-use Rattle.mt_base.proofs.Fields.{Field, Plainly, Refuses, CutShort, behind, field_refuses, little_law, as_err, not_both, ok_is, taken_by}
+use Rattle.mt_base.proofs.Fields.{Field, Plainly, Refuses, CutShort, behind, field_refuses, little_law, as_err, err_is, not_both, ok_is, taken_by}
 use Rattle.dvc_pdus.specs.declared.pdu.DvcRefusal.{DvcRefusal}
 use Rattle.dvc_pdus.specs.declared.pdu.DvcRefusal.TheVariants as refusal
 use Rattle.dvc_pdus.specs.Value.{Pdu, IsNameByte, IsName}
 use Rattle.dvc_pdus.specs.Reading.{id_at, ended, is_name_byte, name_to, name_at}
 use Rattle.dvc_pdus.specs.Layout.{id_in}
 use Rattle.dvc_pdus.specs.Faults.{RefusedId, size_unknown, id_cut, RefusedName, wrong_byte, too_many, not_ended}
-
--- an answer is at most one refusal
-pub err_is : {X : Type 0} {r q : DvcRefusal} → (let refuse : DvcRefusal → Result X DvcRefusal = λ e. Err e in refuse r ≡ refuse q) → r ≡ q
-err_is e = cc
 
 -- ---- the id
 
@@ -55,7 +51,7 @@ pub id_which : (size : ℕ) (bytes : List ℕ) (r : DvcRefusal) → size < 4 →
 id_which size bytes r small good is =
     elim (cases_lt size 3) [
       | inl h ↦ id_cut h ((cut_refused size h).which (record { at = 1; bytes = bytes }) r good is)
-      | inr h ↦ size_unknown (omega arith) (err_is (sym is ∙ bad_size size (record { at = 1; bytes = bytes }) h))
+      | inr h ↦ size_unknown (omega arith) (err_is is (bad_size size (record { at = 1; bytes = bytes }) h))
     ]
 
 pub id_answer : (size : ℕ) (bytes : List ℕ) (r : DvcRefusal) → RefusedId size bytes r → id_at size (record { at = 1; bytes = bytes }) ≡ Err r
@@ -86,7 +82,7 @@ pub record More (at : ℕ) (bytes : List ℕ) (r : DvcRefusal) : Type 0 where
 
 pub ended_err : (pdu : Pdu) (at : ℕ) (bytes : List ℕ) (r : DvcRefusal) → ended pdu (record { at = at; bytes = bytes }) ≡ Err r → More at bytes r
 ended_err pdu at [] r is = not_both pdu r (ended_none pdu at) is
-ended_err pdu at (b ∷ rest) r is = record { first = b; rest = rest; bytes_are = refl; refusal_is = err_is (sym is ∙ ended_more pdu at b rest) }
+ended_err pdu at (b ∷ rest) r is = record { first = b; rest = rest; bytes_are = refl; refusal_is = err_is is (ended_more pdu at b rest) }
 
 -- ---- the name
 
@@ -278,5 +274,5 @@ pub name_which : (s : Left) (r : DvcRefusal) → name_at s ≡ Err r → Refused
 name_which s r is =
     elim (named_or s.at s.bytes) [
       | named name rest fits whole ↦ not_both (name, behind s (name ++ (0 ∷ [])) rest) r (ends_at name (name ++ (0 ∷ [])) (fits, refl) s rest whole) is
-      | misnamed q fault ↦ subst (RefusedName s.at s.bytes) (err_is (sym (name_answer s q fault) ∙ is)) fault
+      | misnamed q fault ↦ subst (RefusedName s.at s.bytes) (err_is (name_answer s q fault) is) fault
     ]
