@@ -28,9 +28,12 @@ IsSizeOf size id = (size < 3) × (id < 256 ^ 2 ^ size)
 
 -- the fields of a PDU in order
 abbrev pub layout : Choice → Pdu → List (List ℕ)
-layout c (Caps version charges) = first_byte 5 c.unnamed c.size ∷ (c.pad ∷ []) ∷ little_bytes 2 version ∷ charge_fields charges
-layout c (CreateRequest id priority name) = first_byte 1 priority c.size ∷ id_in c.size id ∷ name ∷ (0 ∷ []) ∷ []
-layout c (CreateResponse id status) = first_byte 1 c.unnamed c.size ∷ id_in c.size id ∷ little_bytes 4 status ∷ []
+layout c (Caps version charges) =
+    first_byte 5 c.unnamed c.size ∷ (c.pad ∷ []) ∷ little_bytes 2 version ∷ charge_fields charges
+layout c (CreateRequest id priority name) =
+    first_byte 1 priority c.size ∷ id_in c.size id ∷ name ∷ (0 ∷ []) ∷ []
+layout c (CreateResponse id status) =
+    first_byte 1 c.unnamed c.size ∷ id_in c.size id ∷ little_bytes 4 status ∷ []
 layout c (Data id bytes) = first_byte 3 c.unnamed c.size ∷ id_in c.size id ∷ bytes ∷ []
 
 -- a choice that the layout of this PDU has

@@ -10,7 +10,8 @@ pub record Space : Type 0 where
 -- one field of n bytes is passed over, or it doesn't fit
 abbrev pub pass : ℕ → Space → Result Space NoRoom
 pass n s =
-    if nat_lt s.behind n then Err (record { at = s.before; need = n }) else Ok (record { before = s.before + n; behind = s.behind - n })
+    if nat_lt s.behind n then Err (record { at = s.before; need = n })
+    else Ok (record { before = s.before + n; behind = s.behind - n })
 
 -- the next step, where the one before it went well
 abbrev pub then_pass : Result Space NoRoom → (Space → Result Space NoRoom) → Result Space NoRoom
