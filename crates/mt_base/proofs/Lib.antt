@@ -1,1 +1,4 @@
 pub mod Fill
+pub mod Lists
+pub mod Bytes
+pub mod Stretches
