@@ -16,10 +16,12 @@ cond_some false n h = lit< tt
 -- the next byte holds some flags
 pub next_count_some : (f : Bool) (fs : List Bool) → 0 < next_count f (f ∷ fs)
 next_count_some f fs =
-    cond_some (takes_run (longest f (f ∷ fs)) (length (f ∷ fs))) (longest f (f ∷ fs)) (stretch_some 63 f fs (lit< tt))
+    cond_some (takes_run (longest f (f ∷ fs)) (length (f ∷ fs))) (longest f (f ∷ fs))
+    (stretch_some 63 f fs (lit< tt))
 
 -- how many flags may be left makes no difference
-within_enough : (j k : ℕ) (fs : List Bool) → length fs ≤ j → length fs ≤ k → coded_within j fs ≡ coded_within k fs
+within_enough : (j k : ℕ) (fs : List Bool) → length fs ≤ j → length fs ≤ k
+    → coded_within j fs ≡ coded_within k fs
 within_enough zero zero fs h i = refl
 within_enough zero (suc k) [] h i = refl
 within_enough zero (suc k) (f ∷ fs) h i = absurd (omega arith)
@@ -30,17 +32,20 @@ within_enough (suc j) (suc k) (f ∷ fs) h i =
     let n = next_count f (f ∷ fs) in
     let some = next_count_some f fs in
     let long = length-drop n (f ∷ fs) in
-    ap (λ cs. next_byte f (f ∷ fs) ∷ cs) (within_enough j k (drop n (f ∷ fs)) (omega arith) (omega arith))
+    ap (λ cs. next_byte f (f ∷ fs) ∷ cs) (within_enough j k (drop n (f ∷ fs)) (omega arith)
+    (omega arith))
 
 -- the first byte of what is written, and the others
-pub coded_of-cons : (f : Bool) (fs : List Bool) → coded_of (f ∷ fs) ≡ next_byte f (f ∷ fs) ∷ coded_of (drop (next_count f (f ∷ fs)) (f ∷ fs))
+pub coded_of-cons : (f : Bool) (fs : List Bool)
+    → coded_of (f ∷ fs) ≡ next_byte f (f ∷ fs) ∷ coded_of (drop (next_count f (f ∷ fs)) (f ∷ fs))
 unfolding coded_of
 coded_of-cons f fs =
     let n = next_count f (f ∷ fs) in
     let some = next_count_some f fs in
     let rest = drop n (f ∷ fs) in
     let long = length-drop n (f ∷ fs) in
-    ap (λ cs. next_byte f (f ∷ fs) ∷ cs) (within_enough (length fs) (length rest) rest (omega arith) (omega arith))
+    ap (λ cs. next_byte f (f ∷ fs) ∷ cs) (within_enough (length fs) (length rest) rest
+    (omega arith) (omega arith))
 
 pub coded_of-nil : coded_of [] ≡ []
 unfolding coded_of
@@ -65,7 +70,8 @@ longest_one b n fs is =
 abbrev Chosen : ℕ → ℕ → Type 0
 Chosen n left = (7 ≤ n) ⊎ ((n ≡ left) ⊎ (left < 7))
 
-chosen_by : (n left : ℕ) (a b c : Bool) → leb 7 n ≡ a → eqb n left ≡ b → ltb left 7 ≡ c → (a || b || c) ≡ true → Chosen n left
+chosen_by : (n left : ℕ) (a b c : Bool) → leb 7 n ≡ a → eqb n left ≡ b → ltb left 7 ≡ c
+    → (a || b || c) ≡ true → Chosen n left
 chosen_by n left true b c h i j e = inl (grind (arith, nat_tests))
 chosen_by n left false true c h i j e = inr (inl (grind (arith, nat_tests)))
 chosen_by n left false false true h i j e = inr (inr (grind (arith, nat_tests)))
@@ -86,9 +92,12 @@ seven_takes : (n left : ℕ) → n < 7 → 7 ≤ left → takes_run n left ≡ f
 seven_takes n left h i = grind (arith, nat_tests)
 
 -- what is written next holds the flags as the rule says
-piece_by : (t : Bool) (f : Bool) (fs : List Bool) → takes_run (longest f (f ∷ fs)) (length (f ∷ fs)) ≡ t →
-    IsRun (cond t (run_byte f (longest f (f ∷ fs))) (bits_byte (take 7 (f ∷ fs)))) (cond t (longest f (f ∷ fs)) 7) (f ∷ fs)
-    ⊎ IsSeven (cond t (run_byte f (longest f (f ∷ fs))) (bits_byte (take 7 (f ∷ fs)))) (cond t (longest f (f ∷ fs)) 7) (f ∷ fs)
+piece_by : (t : Bool) (f : Bool) (fs : List Bool)
+    → takes_run (longest f (f ∷ fs)) (length (f ∷ fs)) ≡ t →
+    IsRun (cond t (run_byte f (longest f (f ∷ fs))) (bits_byte (take 7 (f ∷ fs))))
+    (cond t (longest f (f ∷ fs)) 7) (f ∷ fs)
+    ⊎ IsSeven (cond t (run_byte f (longest f (f ∷ fs))) (bits_byte (take 7 (f ∷ fs))))
+    (cond t (longest f (f ∷ fs)) 7) (f ∷ fs)
 piece_by true f fs e = inl (record {
   received = f;
   byte_is = refl;
@@ -104,7 +113,8 @@ piece_by false f fs e =
       unequal = λ b equal.
           let first = first_is b 7 (f ∷ fs) (lit< tt) equal in
           let same : f ≡ b = cc in
-          let most = stretch_greatest 63 7 f (f ∷ fs) (lit≤ tt) (subst (λ x. take 7 (f ∷ fs) ≡ replicate 7 x) (sym same) equal) in
+          let most = stretch_greatest 63 7 f (f ∷ fs) (lit≤ tt)
+          (subst (λ x. take 7 (f ∷ fs) ≡ replicate 7 x) (sym same) equal) in
           omega (arith, most, few.0);
       byte_is = refl;
     })
@@ -136,12 +146,15 @@ run_next c n fs run =
     let b = run.received in
     let cons = first_is b n fs run.some run.longest.equal in
     let long = longest_one b n fs run.longest in
-    let takes : takes_run (longest b fs) (length fs) ≡ true = subst (λ k. takes_run k (length fs) ≡ true) long (chosen_takes n (length fs) run.chosen) in
+    let takes : takes_run (longest b fs) (length fs) ≡ true =
+    subst (λ k. takes_run k (length fs) ≡ true) long
+    (chosen_takes n (length fs) run.chosen) in
     record {
       first = b;
       others = cons.0;
       fs_are = cons.1;
-      byte_is = run.byte_is ∙ ap (run_byte b) long ∙ sym (ap (λ t. cond t (run_byte b (longest b fs)) (bits_byte (take 7 fs))) takes);
+      byte_is = run.byte_is ∙ ap (run_byte b) long
+          ∙ sym (ap (λ t. cond t (run_byte b (longest b fs)) (bits_byte (take 7 fs))) takes);
       count_is = long ∙ sym (ap (λ t. cond t (longest b fs) 7) takes);
     }
 
@@ -150,7 +163,8 @@ some_first [] h = absurd (omega arith)
 some_first (f ∷ fs) h = (f, fs, refl)
 
 -- a stretch of seven or more has seven equal flags
-seven_equal : (b : Bool) (n : ℕ) (fs : List Bool) → 7 ≤ n → take n fs ≡ replicate n b → take 7 fs ≡ replicate 7 b
+seven_equal : (b : Bool) (n : ℕ) (fs : List Bool) → 7 ≤ n → take n fs ≡ replicate n b
+    → take 7 fs ≡ replicate 7 b
 seven_equal b n fs h e =
     let seven : take 7 (take n fs) ≡ take 7 fs = take-take 7 n fs h in
     sym seven ∙ ap (take 7) e ∙ take-replicate 7 n b h
@@ -166,11 +180,13 @@ seven_next c n fs seven =
       first = b;
       others = cons.1;
       fs_are = cons.2;
-      byte_is = seven.byte_is ∙ sym (ap (λ t. cond t (run_byte b (longest b fs)) (bits_byte (take 7 fs))) takes);
+      byte_is = seven.byte_is ∙ sym (ap (λ t. cond t (run_byte b (longest b fs))
+          (bits_byte (take 7 fs))) takes);
       count_is = seven.seven ∙ sym (ap (λ t. cond t (longest b fs) 7) takes);
     }
   where
-    below_seven : (b : Bool) (fs : List Bool) → ((received : Bool) → ¬ (take 7 fs ≡ replicate 7 received)) → longest b fs < 7
+    below_seven : (b : Bool) (fs : List Bool)
+        → ((received : Bool) → ¬ (take 7 fs ≡ replicate 7 received)) → longest b fs < 7
     below_seven b fs unequal = elim (cases_lt (longest b fs) 7) [
       | inl h ↦ h
       | inr h ↦ absurd (unequal b (seven_equal b (longest b fs) fs h (stretch_equal 63 b fs)))
@@ -198,11 +214,13 @@ run_flags : (b : Bool) (n : ℕ) → n ≤ 63 → flags_in (run_byte b n) ≡ re
 run_flags true n h =
     let state : (192 + n) / 64 ≡ 3 = omega arith in
     let count : (192 + n) % 64 ≡ n = omega arith in
-    flags_in_high (192 + n) (omega arith) ∙ ap (λ x. replicate ((192 + n) % 64) (x == 3)) state ∙ ap (λ x. replicate x true) count
+    flags_in_high (192 + n) (omega arith) ∙ ap (λ x. replicate ((192 + n) % 64) (x == 3)) state
+    ∙ ap (λ x. replicate x true) count
 run_flags false n h =
     let state : (128 + n) / 64 ≡ 2 = omega arith in
     let count : (128 + n) % 64 ≡ n = omega arith in
-    flags_in_high (128 + n) (omega arith) ∙ ap (λ x. replicate ((128 + n) % 64) (x == 3)) state ∙ ap (λ x. replicate x false) count
+    flags_in_high (128 + n) (omega arith) ∙ ap (λ x. replicate ((128 + n) % 64) (x == 3)) state
+    ∙ ap (λ x. replicate x false) count
 
 -- the bits of a byte that was made of them
 bits-bits_byte : (fs : List Bool) → bits (length fs) (bits_byte fs) ≡ fs
@@ -211,12 +229,14 @@ bits-bits_byte (true ∷ fs) =
     let m = bits_byte fs in
     let low : (1 + 2 * m) % 2 ≡ 1 = omega arith in
     let high : (1 + 2 * m) / 2 ≡ m = omega arith in
-    ap (λ x. (x == 1) ∷ bits (length fs) ((1 + 2 * m) / 2)) low ∙ ap (λ x. true ∷ bits (length fs) x) high ∙ ap (λ t. true ∷ t) (bits-bits_byte fs)
+    ap (λ x. (x == 1) ∷ bits (length fs) ((1 + 2 * m) / 2)) low
+    ∙ ap (λ x. true ∷ bits (length fs) x) high ∙ ap (λ t. true ∷ t) (bits-bits_byte fs)
 bits-bits_byte (false ∷ fs) =
     let m = bits_byte fs in
     let low : (0 + 2 * m) % 2 ≡ 0 = omega arith in
     let high : (0 + 2 * m) / 2 ≡ m = omega arith in
-    ap (λ x. (x == 1) ∷ bits (length fs) ((0 + 2 * m) / 2)) low ∙ ap (λ x. false ∷ bits (length fs) x) high ∙ ap (λ t. false ∷ t) (bits-bits_byte fs)
+    ap (λ x. (x == 1) ∷ bits (length fs) ((0 + 2 * m) / 2)) low
+    ∙ ap (λ x. false ∷ bits (length fs) x) high ∙ ap (λ t. false ∷ t) (bits-bits_byte fs)
 
 pub bits_byte_small : (fs : List Bool) → bits_byte fs < 2 ^ length fs
 bits_byte_small [] = lit< tt
@@ -226,8 +246,10 @@ bits_byte_small (false ∷ fs) = omega (arith, bits_byte_small fs, pow-suc 2 (le
 -- the flags of a byte of seven
 seven_flags : (fs : List Bool) → length fs ≡ 7 → flags_in (bits_byte fs) ≡ fs
 seven_flags fs long =
-    let small : bits_byte fs < 128 = subst (λ n. bits_byte fs < 2 ^ n) long (bits_byte_small fs) in
-    flags_in_low (bits_byte fs) small ∙ ap (λ n. bits n (bits_byte fs)) (sym long) ∙ bits-bits_byte fs
+    let small : bits_byte fs < 128 = subst (λ n. bits_byte fs < 2 ^ n) long
+    (bits_byte_small fs) in
+    flags_in_low (bits_byte fs) small ∙ ap (λ n. bits n (bits_byte fs)) (sym long)
+    ∙ bits-bits_byte fs
 
 -- a byte spells the flags that it holds
 piece_flags : (c n : ℕ) (fs : List Bool) → IsRun c n fs ⊎ IsSeven c n fs → flags_in c ≡ take n fs
@@ -235,13 +257,15 @@ piece_flags c n fs (inl run) =
     ap flags_in run.byte_is ∙ run_flags run.received n run.longest.short ∙ sym run.longest.equal
 piece_flags c n fs (inr seven) =
     let long : length (take 7 fs) ≡ 7 = omega (arith, length-take 7 fs, seven.enough) in
-    ap flags_in seven.byte_is ∙ seven_flags (take 7 fs) long ∙ ap (λ k. take k fs) (sym seven.seven)
+    ap flags_in seven.byte_is ∙ seven_flags (take 7 fs) long
+    ∙ ap (λ k. take k fs) (sym seven.seven)
 
 pub holds_flags : (cs : List ℕ) (fs : List Bool) → HoldPieces cs fs → flags_of cs ≡ fs
 holds_flags [] fs h = sym h
 holds_flags (c ∷ cs) fs h =
     let n = h.0 in
-    ap (λ x. x ++ flags_of cs) (piece_flags c n fs h.1) ∙ ap (λ x. take n fs ++ x) (holds_flags cs (drop n fs) h.2) ∙ take-append-drop n fs
+    ap (λ x. x ++ flags_of cs) (piece_flags c n fs h.1)
+    ∙ ap (λ x. take n fs ++ x) (holds_flags cs (drop n fs) h.2) ∙ take-append-drop n fs
 
 -- a byte holds some flags, and seven unless fewer than seven are left
 record IsEnough (n : ℕ) (fs : List Bool) : Type 0 where
@@ -251,12 +275,18 @@ record IsEnough (n : ℕ) (fs : List Bool) : Type 0 where
 
 enough_of : (c n : ℕ) (fs : List Bool) → IsRun c n fs ⊎ IsSeven c n fs → IsEnough n fs
 enough_of c n fs (inl run) =
-    let within : n ≤ length fs = omega (arith, ap length run.longest.equal, length-take n fs, length-replicate n run.received) in
+    let within : n ≤ length fs = omega (
+      arith,
+      ap length run.longest.equal,
+      length-take n fs,
+      length-replicate n run.received,
+    ) in
     record { some = run.some; within = within; seven = seven_or n (length fs) run.chosen }
   where
     seven_or : (n left : ℕ) → Chosen n left → (7 ≤ n) ⊎ (left < 7)
     seven_or n left (inl h) = inl h
-    seven_or n left (inr (inl h)) = elim (cases_lt left 7) [ inl i ↦ inr i | inr i ↦ inl (omega arith) ]
+    seven_or n left (inr (inl h)) = elim (cases_lt left 7)
+        [ inl i ↦ inr i | inr i ↦ inl (omega arith) ]
     seven_or n left (inr (inr h)) = inr h
 enough_of c n fs (inr seven) = record {
   some = omega (arith, seven.seven);
@@ -265,14 +295,18 @@ enough_of c n fs (inr seven) = record {
 }
 
 -- how many bytes there are
-pub holds_length : (cs : List ℕ) (fs : List Bool) → HoldPieces cs fs → (length cs ≤ length fs) × (7 * length cs ≤ length fs + 36)
+pub holds_length : (cs : List ℕ) (fs : List Bool) → HoldPieces cs fs
+    → (length cs ≤ length fs) × (7 * length cs ≤ length fs + 36)
 holds_length [] fs h = (omega arith, omega arith)
 holds_length (c ∷ cs) fs h =
     let n = h.0 in
     let rest = holds_length cs (drop n fs) h.2 in
     let enough = enough_of c n fs h.1 in
-    count_more (length cs) n (length fs) (length (drop n fs)) (length-drop n fs) enough.some enough.within enough.seven rest.0 rest.1
+    count_more (length cs) n (length fs) (length (drop n fs)) (length-drop n fs) enough.some
+    enough.within enough.seven rest.0 rest.1
   where
-    count_more : (m n left behind : ℕ) → behind ≡ left - n → 0 < n → n ≤ left → (7 ≤ n) ⊎ (left < 7) → m ≤ behind → 7 * m ≤ behind + 36 → (suc m ≤ left) × (7 * suc m ≤ left + 36)
+    count_more : (m n left behind : ℕ) → behind ≡ left - n → 0 < n → n ≤ left
+        → (7 ≤ n) ⊎ (left < 7) → m ≤ behind → 7 * m ≤ behind + 36
+        → (suc m ≤ left) × (7 * suc m ≤ left + 36)
     count_more m n left behind is some within (inl h) few short = (omega arith, omega arith)
     count_more m n left behind is some within (inr h) few short = (omega arith, omega arith)

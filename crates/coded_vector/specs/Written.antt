@@ -1,6 +1,6 @@
--- The coded bytes that are written for flags: runs of the longest stretch of equal flags that comes
--- next, at most 63, where that is seven flags or more or all that are left, and seven flags in one
--- byte where not. Fewer than seven flags at the end are runs too.
+-- The coded bytes that are written for flags: runs of the longest stretch of equal flags that
+-- comes next, at most 63, where that is seven flags or more or all that are left, and seven flags
+-- in one byte where not. Fewer than seven flags at the end are runs too.
 use Rattle.std.specs.Prelude.{◌≡◌, ℕ, zero, suc, ◌+◌, ◌*◌, ◌<◌, ◌≤◌, ◌==◌, ◌||◌, ◌⊎◌, Bool, not, List, [], ◌∷◌, length, take, drop, replicate, nat_lt, nat_le, if◌then◌else◌}
 use Rattle.std.specs.List.{prefix_len}
 
@@ -38,7 +38,8 @@ abbrev pub coded_within : ℕ → List Bool → List ℕ
 coded_within zero flags = []
 coded_within (suc most) [] = []
 coded_within (suc most) (flag ∷ flags) =
-    next_byte flag (flag ∷ flags) ∷ coded_within most (drop (next_count flag (flag ∷ flags)) (flag ∷ flags))
+    next_byte flag (flag ∷ flags) ∷ coded_within most
+    (drop (next_count flag (flag ∷ flags)) (flag ∷ flags))
 
 -- the coded bytes that are written for flags
 unfoldable pub coded_of : List Bool → List ℕ

@@ -1,7 +1,9 @@
-//! Laws of the coded vector: what is written spells the flags, piece by piece as the rule says.
+//! Laws of the coded vector: what is written spells the flags, piece by piece as the rule says,
+//! and which flag tells of which number.
 
-ghost use Rattle.std.specs.Prelude.{◌≡◌, ◌+◌, ◌/◌, ◌≤◌, ℕ, Bool, List, length};
+ghost use Rattle.std.specs.Prelude.{◌≡◌, ◌+◌, ◌*◌, ◌/◌, ◌<◌, ◌≤◌, ◌⊎◌, ◌∷◌, ◌++◌, ℕ, Bool, List, None, Some, length};
 ghost use Rattle.coded_vector.specs.CodedBytes.{flags_of};
+ghost use Rattle.coded_vector.specs.Numbers.{flag_told};
 ghost use Rattle.coded_vector.specs.Written.{HoldPieces, coded_of};
 
 /// Each byte that is written holds what the rule says comes next, and no other list of bytes does
@@ -17,4 +19,19 @@ pub fn written_spells()
     ensures spells { (flags : List Bool) → flags_of (coded_of flags) ≡ flags }
     ensures few { (flags : List Bool) → length (coded_of flags) ≤ length flags }
     ensures short { (flags : List Bool) → length (coded_of flags) ≤ (length flags + 36) / 7 }
+{}
+
+/// A byte has at most 63 flags.
+pub fn few_flags()
+    ensures { (cs : List ℕ) → length (flags_of cs) ≤ 63 * length cs }
+{}
+
+/// A flag tells of the number that lies as far above the base as there are flags before it. No
+/// flag tells of a number below the base, or further above it than there are flags.
+pub fn numbers_told()
+    ensures told { (before after : List Bool) (flag : Bool) (base number : ℕ) →
+        base + length before ≡ number →
+        flag_told (before ++ flag ∷ after) base number ≡ Some flag }
+    ensures untold { (flags : List Bool) (base number : ℕ) →
+        (number < base) ⊎ (base + length flags ≤ number) → flag_told flags base number ≡ None }
 {}

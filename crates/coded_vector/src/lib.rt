@@ -15,7 +15,7 @@ mod reader;
 mod writer;
 
 pub use flags::Coded;
-pub use laws::{chosen_pieces, written_spells};
+pub use laws::{chosen_pieces, few_flags, numbers_told, written_spells};
 pub use lookup::told_coded;
 pub use reader::read_coded;
 pub use writer::write_coded;

@@ -25,14 +25,16 @@ const TEN: [bool; 10] = [
     true, true, true, true, false, true, false, false, false, false,
 ];
 
-const ALTERNATING: [bool; 8] = [true, false, true, false, true, false, true, false];
+const ALTERNATING: [bool; 13] = [
+    true, false, true, false, true, false, true, false, true, false, true, false, true,
+];
 
 #[test]
 fn reads_flags(rt: HostRuntime) {
     assert!(rt; is_read(&[], &[]));
     assert!(rt; is_read(&[0xc3, 0x05], &TEN));
     assert!(rt; is_read(&[0x2f, 0x83], &TEN));
-    assert!(rt; is_read(&[0x80, 0x55, 0xc0, 0x80, 0x81, 0xc0], &ALTERNATING));
+    assert!(rt; is_read(&[0x80, 0x55, 0xc0, 0x80, 0x81, 0xc0], &ALTERNATING[..8]));
     assert!(rt; is_read(&[0xff], &[true; 63]));
     assert!(rt;
         is_read(
@@ -49,7 +51,8 @@ fn reads_flags(rt: HostRuntime) {
 fn writes_runs_and_sevens(rt: HostRuntime) {
     assert!(rt; is_written(&[], &[]));
     assert!(rt; is_written(&TEN, &[0x2f, 0x83]));
-    assert!(rt; is_written(&ALTERNATING, &[0x55, 0x81]));
+    assert!(rt; is_written(&ALTERNATING[..8], &[0x55, 0x81]));
+    assert!(rt; is_written(&ALTERNATING, &[0x55, 0x81, 0xc1, 0x81, 0xc1, 0x81, 0xc1]));
     assert!(rt; is_written(&ALTERNATING[..7], &[0x55]));
     assert!(rt; is_written(&ALTERNATING[..6], &[0xc1, 0x81, 0xc1, 0x81, 0xc1, 0x81]));
     assert!(rt; is_written(&[true, true, true, true, true, true, false], &[0x3f]));
@@ -123,4 +126,6 @@ fn tells_at_the_ends_of_numbers(rt: HostRuntime) {
 fn laws_hold() {
     chosen_pieces();
     written_spells();
+    few_flags();
+    numbers_told();
 }

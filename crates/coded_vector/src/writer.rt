@@ -9,14 +9,15 @@ use mt_base::{NoRoom, Out};
 ///
 /// Where the next seven flags or more are equal, or all that are left, the next byte is a run of
 /// the longest such stretch, at most 63; else it holds the next seven flags. Fewer than seven
-/// flags at the end are runs. Where the next byte finds no place it is `NoRoom`, with those
-/// before it written. The bytes behind what is written stay as they were.
+/// flags at the end are runs. The flags of `c3 05` are written `2f 83`. Where the next byte finds
+/// no place it is `NoRoom`, with those before it written. The bytes behind what is written stay as
+/// they were.
 pub fn write_coded(flags: &[bool], out: &mut [u8]) -> Result<usize, NoRoom>
     ensures ok { let cs = coded_of flags.now in
         IfOk result (λ n. (n ≡ length cs) × (out.new ≡ cs ++ drop n out.old)) }
     ensures fits { length (coded_of flags.now) ≤ length out.old → IsOk result }
-    ensures no_room { let cs = coded_of flags.now in
-        IfErr result (λ e. (length out.old < length cs) × (e ≡ record { at = length out.old; need = 1 })) }
+    ensures no_room { IfErr result (λ e. (length out.old < length (coded_of flags.now))
+        × (e ≡ record { at = length out.old; need = 1 })) }
     ensures filled { OnErr result (out.new ≡ take (length out.old) (coded_of flags.now)) }
 {
     let mut place = Out::new(out);

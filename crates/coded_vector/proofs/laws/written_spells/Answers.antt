@@ -10,4 +10,5 @@ pub returns-clause-few : goal.returns-clause-few
 returns-clause-few c flags = (holds_length (coded_of flags) flags (holds flags)).0
 
 pub returns-clause-short : goal.returns-clause-short
-returns-clause-short c flags = let bound = holds_length (coded_of flags) flags (holds flags) in omega (arith, bound.1)
+returns-clause-short c flags = let bound = holds_length (coded_of flags) flags (holds flags) in
+    omega (arith, bound.1)

@@ -8,13 +8,20 @@ pub returns-then-before-count : goal.returns-then-before-count
 returns-then-before-count c =
     let bytes = c.args.bytes.now in
     let i = c.loop-byte.byte-index in
-    let first : drop i bytes ≡ get_or bytes i 0 ∷ drop (i + 1) bytes = at_drop_more (λ x. x) bytes i 0 (omega arith) in
+    let first : drop i bytes ≡ get_or bytes i 0 ∷ drop (i + 1) bytes =
+    at_drop_more (λ x. x) bytes i 0 (omega arith) in
     told_flag (flags_of bytes) c.args.base c.args.number c.flag_at.result c.loop-byte.invariant.0
-    (c.loop-byte.invariant.1 ∙ flag_in_first (drop i bytes) (drop (i + 1) bytes) (get_or bytes i 0) c.loop-byte.before first (omega arith) ∙ sym c.flag_at.ensures.flag)
+    (c.loop-byte.invariant.1 ∙ flag_in_first (drop i bytes) (drop (i + 1) bytes)
+    (get_or bytes i 0) c.loop-byte.before first (omega arith) ∙ sym c.flag_at.ensures.flag)
 
 pub loop-byte-preserved : goal.loop-byte-preserved
 loop-byte-preserved c =
     let bytes = c.args.bytes.now in
     let i = c.loop-byte.byte-index in
-    let first : drop i bytes ≡ get_or bytes i 0 ∷ drop (i + 1) bytes = at_drop_more (λ x. x) bytes i 0 (omega arith) in
-    (c.loop-byte.invariant.0, c.loop-byte.invariant.1 ∙ flag_behind_first (drop i bytes) (drop (i + 1) bytes) (get_or bytes i 0) c.loop-byte.before c.from-count.result first (omega arith) (omega arith))
+    let first : drop i bytes ≡ get_or bytes i 0 ∷ drop (i + 1) bytes =
+    at_drop_more (λ x. x) bytes i 0 (omega arith) in (
+      c.loop-byte.invariant.0,
+      c.loop-byte.invariant.1
+          ∙ flag_behind_first (drop i bytes) (drop (i + 1) bytes) (get_or bytes i 0)
+          c.loop-byte.before c.from-count.result first (omega arith) (omega arith),
+    )

@@ -6,4 +6,5 @@ use Rattle.coded_vector.proofs.lookup.told_coded.Given as goal
 abbrev pub invariant-loop-byte : goal.invariant-loop-byte
 invariant-loop-byte l =
     (l.base ≤ l.number)
-    × (slice_get (flags_of l.bytes) (l.number - l.base) ≡ slice_get (flags_of (drop l.byte-index l.bytes)) l.before)
+    × (slice_get (flags_of l.bytes) (l.number - l.base)
+    ≡ slice_get (flags_of (drop l.byte-index l.bytes)) l.before)
