@@ -50,3 +50,14 @@ pub enum DvcRefusal {
     /// A byte stands after the last field.
     Trailing { at: usize },
 }
+
+impl From<Short> for DvcRefusal {
+    ghost use Rattle.std.specs.Prelude.{◌≡◌};
+    ghost use Rattle.dvc_pdus.specs.declared.pdu.DvcRefusal.TheVariants as refusal;
+
+    ghost from_gives = { λ short answer. answer ≡ refusal.Short short };
+
+    fn from(short: Short) -> DvcRefusal {
+        DvcRefusal::Short(short)
+    }
+}

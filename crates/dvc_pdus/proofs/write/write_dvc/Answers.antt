@@ -1,0 +1,11 @@
+use Rattle.std.proofs.Common.{rules, arith}
+use Rattle.mt_base.proofs.Fields.{handed}
+use Rattle.dvc_pdus.specs.Value.{fields}
+use Rattle.dvc_pdus.specs.Views.{pdu_of}
+use Rattle.dvc_pdus.proofs.write.write_dvc.Goals as goal
+
+pub returns-clause-ok : goal.returns-clause-ok
+returns-clause-ok c =
+    let o = c.put_pdu.new.out in
+    let fs = fields (pdu_of c.args.pdu.now) in
+    handed fs c.args.out.now o.bytes.now _ o.at c.at.result _ (omega arith) c.at.ensures (search rules) c.new-place.ensures.start c.in_ok-put_pdu.ensures.written

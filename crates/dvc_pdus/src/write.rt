@@ -1,0 +1,106 @@
+//! Writing PDUs.
+
+ghost use Rattle.std.specs.Prelude.{◌≡◌, ◌+◌, ◌*◌, ◌<◌, ◌^◌, ◌++◌, [], length, drop, IfOk, IfErr, Err, ℕ};
+ghost use Rattle.mt_base.specs.Writing.{Writes, put, puts};
+ghost use Rattle.mt_base.specs.OutView.{spot};
+ghost use Rattle.mt_base.specs.declared.kinds.Role.{Role};
+ghost use Rattle.dvc_pdus.specs.Value.{Fits, fields, spelled, header, smallest, size_code, charge_fields};
+ghost use Rattle.dvc_pdus.specs.Views.{pdu_of};
+
+use crate::pdu::DvcPdu;
+use mt_base::{NoRoom, Out};
+
+/// The code of the smallest size that an id fits.
+fn size_code(id: u32) -> u8
+    ensures { result ≡ size_code id }
+{
+    if id < 0x100 {
+        0
+    } else if id < 0x1_0000 {
+        1
+    } else {
+        2
+    }
+}
+
+fn put_header(out: &mut Out<'_>, command: u8, own: u8, id: u32) -> Result<(), NoRoom>
+    requires command { command < 16 }
+    requires own { own < 4 }
+    ensures same { out.new.bytes.ghost_name ≡ out.old.bytes.ghost_name }
+    ensures written { Writes (spot out.new) result (put (header command own id) (spot out.old)) }
+{
+    out.put(&[command * 16 + own * 4 + size_code(id)])
+}
+
+/// Writes an id in the smallest size that it fits.
+fn put_id(out: &mut Out<'_>, id: u32) -> Result<(), NoRoom>
+    ensures same { out.new.bytes.ghost_name ≡ out.old.bytes.ghost_name }
+    ensures written { Writes (spot out.new) result (put (smallest id) (spot out.old)) }
+{
+    if id < 0x100 {
+        out.put_u8(id as u8)
+    } else if id < 0x1_0000 {
+        out.put_u16_le(id as u16)
+    } else {
+        out.put_u32_le(id)
+    }
+}
+
+fn put_charges(out: &mut Out<'_>, charges: Option<[u16; 4]>) -> Result<(), NoRoom>
+    ensures same { out.new.bytes.ghost_name ≡ out.old.bytes.ghost_name }
+    ensures written { Writes (spot out.new) result (puts (charge_fields charges) (spot out.old)) }
+{
+    let Some(charges) = charges else {
+        return Ok(());
+    };
+    let [first, second, third, fourth] = charges;
+    out.put_u16_le(first)?;
+    out.put_u16_le(second)?;
+    out.put_u16_le(third)?;
+    out.put_u16_le(fourth)
+}
+
+fn put_pdu(out: &mut Out<'_>, pdu: &DvcPdu<'_>) -> Result<(), NoRoom>
+    requires { (from : Role) × Fits from (pdu_of pdu.now) }
+    ensures same { out.new.bytes.ghost_name ≡ out.old.bytes.ghost_name }
+    ensures written { Writes (spot out.new) result (puts (fields (pdu_of pdu.now)) (spot out.old)) }
+{
+    match *pdu {
+        DvcPdu::Caps { version, charges } => {
+            out.put(&[0x50])?;
+            out.put(&[0])?;
+            out.put_u16_le(version)?;
+            put_charges(out, charges)
+        }
+        DvcPdu::CreateRequest { id, priority, name } => {
+            put_header(out, 1, priority, id)?;
+            put_id(out, id)?;
+            out.put(name)?;
+            out.put(&[0])
+        }
+        DvcPdu::CreateResponse { id, status } => {
+            put_header(out, 1, 0, id)?;
+            put_id(out, id)?;
+            out.put_u32_le(status)
+        }
+        DvcPdu::Data { id, bytes } => {
+            put_header(out, 3, 0, id)?;
+            put_id(out, id)?;
+            out.put(bytes)
+        }
+    }
+}
+
+/// Writes a PDU at the front of `out`, and gives the number of its bytes (MS-RDPEDYC section 2.2).
+/// Ids have the smallest size that they fit, and the bits and bytes without a meaning are zero.
+///
+/// Where a field does not fit it is [`NoRoom`], with that field's place and length.
+pub fn write_dvc(pdu: &DvcPdu<'_>, out: &mut [u8]) -> Result<usize, NoRoom>
+    requires { (from : Role) × Fits from (pdu_of pdu.now) }
+    ensures ok { let text = spelled (pdu_of pdu.now) in IfOk result (λ n. (n ≡ length text) × (out.new ≡ text ++ drop n out.old)) }
+    ensures no_room { IfErr result (λ e. puts (fields (pdu_of pdu.now)) (record { before = []; after = out.old }) ≡ Err e) }
+{
+    let mut place = Out::new(out);
+    put_pdu(&mut place, pdu)?;
+    Ok(place.at())
+}

@@ -1,0 +1,14 @@
+//! Scripts: what a line of a script does, and the reading of a whole script.
+//!
+//! A script is a text of lines. Each line is empty, a comment, or one event; an event has exactly
+//! one spelling. Below it stands `mt_base` alone. What the crates above use is the relation
+//! between a text and the events that its lines spell, and that reading gives exactly those.
+#![tactic(auto)]
+
+mod event;
+mod script;
+mod text;
+
+pub use event::{Event, Line, ScriptRefusal};
+pub use script::{Script, read_script};
+pub use text::Text;
