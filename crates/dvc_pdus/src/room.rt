@@ -27,6 +27,7 @@ impl Room {
         Room { at: 0, left: len }
     }
 
+    /// Passes over a field.
     fn pass(&mut self, need: usize) -> Result<(), NoRoom>
         ensures { Passes (space self.new) result (pass need (space self.old)) }
     {
@@ -38,6 +39,7 @@ impl Room {
         Ok(())
     }
 
+    /// Passes over an id in the smallest size that it fits.
     fn pass_id(&mut self, id: u32) -> Result<(), NoRoom>
         ensures { Passes (space self.new) result (pass (length (smallest id)) (space self.old)) }
     {
@@ -60,6 +62,7 @@ impl Room {
         Ok(())
     }
 
+    /// Passes over the priority charges, where there are some.
     #[tactic(auto, using(crate::proofs::Spaces::charge_lengths))]
     fn pass_charges(&mut self, charges: Option<[u16; 4]>) -> Result<(), NoRoom>
         ensures { Passes (space self.new) result (passes (map length (charge_fields charges)) (space self.old)) }
