@@ -37,3 +37,11 @@ pub fn one_answer()
     ensures one { (text : List ℕ) (a b : Result (List Line) ScriptRefusal) → ReadsAs text a → ReadsAs text b → a ≡ b }
     ensures written { (events : List Event) → length events ≤ line_limit → All IsEvent events → ReadsAs (ended (map spelled events)) (Ok (numbered 1 (map Some events))) }
 {}
+
+/// The events of a script can be spelled, there are no more of them than a text may have lines,
+/// and their numbers are those of lines.
+pub fn events_read()
+    ensures events { (text : List ℕ) (script : List Line) → ReadsAs text (Ok script) → All (λ line. IsEvent line.event) script }
+    ensures few { (text : List ℕ) (script : List Line) → ReadsAs text (Ok script) → length script ≤ line_limit }
+    ensures numbers { (text : List ℕ) (script : List Line) → ReadsAs text (Ok script) → All (λ line. (1 ≤ line.number) × (line.number ≤ line_limit)) script }
+{}

@@ -35,6 +35,7 @@ fn reads_each_kind(rt: HostRuntime) -> Result<(), Fail> {
     one_spelling();
     one_meaning();
     one_answer();
+    events_read();
     Ok(())
 }
 
@@ -153,6 +154,18 @@ fn refuses_the_first_bad_line(rt: HostRuntime) -> Result<(), Fail> {
             Ok(_) => assert!(rt; false, "a bad line is read"),
             Err(refusal) => assert_eq!(rt; refusal, wanted),
         }
+    }
+    Ok(())
+}
+
+#[test]
+fn counts_lines_first(rt: HostRuntime) -> Result<(), Fail> {
+    let text = vec![in rt.alloc(); b'\n'; 4_000_001]?;
+    assert!(rt; text.len() == 4_000_001);
+    assert!(rt; read_script(rt.alloc(), &text[1..])?.is_empty());
+    match read_script(rt.alloc(), &text) {
+        Ok(_) => assert!(rt; false, "too many lines are read"),
+        Err(refusal) => assert_eq!(rt; refusal, ScriptRefusal::TooManyLines { limit: 4_000_000 }),
     }
     Ok(())
 }
