@@ -17,3 +17,6 @@ mod world;
 pub use mt_script::{Event, ScriptRefusal, Text};
 pub use refusal::{OpenRefusal, Refused, SendRefusal, StepRefusal};
 pub use world::World;
+
+#[cfg(test)]
+mod tests;
