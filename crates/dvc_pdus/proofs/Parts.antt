@@ -176,20 +176,25 @@ end_is good rest b goods short off =
     let front : take 256 (good ++ (b ∷ rest)) ≡ good ++ (b ∷ others) = ap (λ n. take n (good ++ (b ∷ rest))) split ∙ take-append-add good (b ∷ rest) (suc (255 - length good)) in
     ap (position_from (λ b. not (is_name_byte b)) 0) front ∙ stop_at good others b 0 goods off ∙ ap Some (omega arith)
 
+-- at a zero byte the name ends
+name_ends : (k : ℕ) (s : Left) → 0 < k → slice_index s.bytes k ≡ 0 → name_to (Some k) s ≡ Ok (take k s.bytes, past (k + 1) s)
+unfolding name_to
+name_ends k s some byte =
+    rw (and_from (ltb 0 k) (eqb (slice_index s.bytes k) 0) (lt-ltb 0 k some) (eq-eqb (slice_index s.bytes k) 0 byte)) refl
+
 -- a name is read up to its zero byte
 ends_at : (name text : List ℕ) → IsName name × (text ≡ name ++ (0 ∷ [])) → (s : Left) (rest : List ℕ) → s.bytes ≡ text ++ rest → name_at s ≡ Ok (name, behind s text rest)
-unfolding name_at name_to
+unfolding name_at
 ends_at name text good s rest is =
     let k = length name in
     let whole : s.bytes ≡ name ++ (0 ∷ rest) = is ∙ ap (λ t. t ++ rest) good.1 ∙ append_assoc name (0 ∷ []) rest in
     let at : position_from (λ b. not (is_name_byte b)) 0 (take 256 s.bytes) ≡ Some k =
     ap (λ t. position_from (λ b. not (is_name_byte b)) 0 (take 256 t)) whole ∙ end_is name rest 0 good.0.2 (omega (arith, good.0.1)) (λ h. omega (arith, h.0)) in
     let byte : slice_index s.bytes k ≡ 0 = ap (λ t. slice_index t k) whole ∙ get_or_at name 0 rest 0 k refl in
-    let test : (ltb 0 k && eqb (slice_index s.bytes k) 0) ≡ true = and_from (ltb 0 k) (eqb (slice_index s.bytes k) 0) (lt-ltb 0 k (omega (arith, good.0.0))) (eq-eqb (slice_index s.bytes k) 0 byte) in
     let long : length text ≡ k + 1 = omega (arith, ap length good.1, length-append name (0 ∷ [])) in
     let front : take k s.bytes ≡ name = ap (take k) whole ∙ take_at name (0 ∷ rest) k refl in
     let back : drop (k + 1) s.bytes ≡ rest = ap (drop (k + 1)) is ∙ drop_at text rest (k + 1) long in
-    ap (λ o. name_to o s) at ∙ ap (λ b. cond b (Ok (take k s.bytes, past (k + 1) s)) (Err (refusal.BadName (s.at + k)))) test ∙ same s (take k s.bytes) name (k + 1) (length text) (drop (k + 1) s.bytes) rest front (sym long) back
+    ap (λ o. name_to o s) at ∙ name_ends k s (omega (arith, good.0.0)) byte ∙ same s (take k s.bytes) name (k + 1) (length text) (drop (k + 1) s.bytes) rest front (sym long) back
   where
     same : (s : Left) (v x : List ℕ) (n m : ℕ) (left rest : List ℕ) → v ≡ x → n ≡ m → left ≡ rest
         → (let end : Result (List ℕ × Left) DvcRefusal = Ok (v, record { at = s.at + n; bytes = left }) in end ≡ Ok (x, record { at = s.at + m; bytes = rest }))

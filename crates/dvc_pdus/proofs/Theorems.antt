@@ -16,7 +16,7 @@ use Rattle.dvc_pdus.specs.Value.{Pdu, Caps, CreateRequest, CreateResponse, Data,
 use Rattle.dvc_pdus.specs.declared.pdu.DvcPdu.{DvcPdu}
 use Rattle.dvc_pdus.specs.Views.{pdu_of}
 use Rattle.dvc_pdus.specs.Reading.{pdu_at, reading, Answers}
-use Rattle.dvc_pdus.specs.Layout.{id_in, IsSizeOf, Spells}
+use Rattle.dvc_pdus.specs.Layout.{id_in, IsSizeOf, Spells, Encodes}
 use Rattle.dvc_pdus.specs.Faults.{Refused, too_long, in_fields}
 use Rattle.dvc_pdus.proofs.Parts.{err_is}
 use Rattle.dvc_pdus.proofs.Bodies.{at}
@@ -32,8 +32,8 @@ unfolding reading
 beyond from bytes h = rw (lt-ltb 1600 (length bytes) h) refl
 
 -- what is spelled is read
-pub is_read : (from : Role) (bytes : List ℕ) (pdu : Pdu) → Spells from bytes pdu → length bytes ≤ 1600 → reading from bytes ≡ Ok pdu
-is_read from bytes pdu s h = within from bytes h ∙ spelled_reads from bytes pdu s
+pub is_read : (from : Role) (bytes : List ℕ) (pdu : Pdu) → Encodes from bytes pdu → reading from bytes ≡ Ok pdu
+is_read from bytes pdu s = within from bytes s.1 ∙ spelled_reads from bytes pdu s.0
 
 -- each fault is the answer
 pub is_answer : (from : Role) (bytes : List ℕ) (r : DvcRefusal) → Refused from bytes r → reading from bytes ≡ Err r
@@ -41,21 +41,21 @@ is_answer from bytes r (too_long h is) = as_err (beyond from bytes h) is
 is_answer from bytes r (in_fields h fault) = within from bytes h ∙ fault_answer from bytes r fault
 
 -- bytes are spelled or have a fault
-pub spelled_or : (from : Role) (bytes : List ℕ) → IsBytes bytes → ((pdu : Pdu) × Spells from bytes pdu × (length bytes ≤ 1600)) ⊎ ((r : DvcRefusal) × Refused from bytes r)
+pub spelled_or : (from : Role) (bytes : List ℕ) → IsBytes bytes → ((pdu : Pdu) × Encodes from bytes pdu) ⊎ ((r : DvcRefusal) × Refused from bytes r)
 spelled_or from bytes good =
     elim (cases_lt 1600 (length bytes)) [
       | inl h ↦ inr (refusal.TooLong 1600, too_long h refl)
       | inr h ↦ elim (decided from bytes good) [
-        | Whole.spelled pdu s ↦ inl (pdu, s, h)
+        | Whole.spelled pdu s ↦ inl (pdu, (s, h))
         | Whole.refused r fault ↦ inr (r, in_fields h fault)
       ]
     ]
 
 -- what is read was spelled
-pub was_spelled : (from : Role) (bytes : List ℕ) (pdu : Pdu) → IsBytes bytes → reading from bytes ≡ Ok pdu → Spells from bytes pdu × (length bytes ≤ 1600)
+pub was_spelled : (from : Role) (bytes : List ℕ) (pdu : Pdu) → IsBytes bytes → reading from bytes ≡ Ok pdu → Encodes from bytes pdu
 was_spelled from bytes pdu good is =
     elim (spelled_or from bytes good) [
-      | inl s ↦ (subst (Spells from bytes) (ok_is s.0 pdu (is_read from bytes s.0 s.1 s.2) is) s.1, s.2)
+      | inl s ↦ subst (Encodes from bytes) (ok_is s.0 pdu (is_read from bytes s.0 s.1) is) s.1
       | inr f ↦ not_both pdu f.0 is (is_answer from bytes f.0 f.1)
     ]
 
@@ -63,7 +63,7 @@ was_spelled from bytes pdu good is =
 pub was_fault : (from : Role) (bytes : List ℕ) (r : DvcRefusal) → IsBytes bytes → reading from bytes ≡ Err r → Refused from bytes r
 was_fault from bytes r good is =
     elim (spelled_or from bytes good) [
-      | inl s ↦ not_both s.0 r (is_read from bytes s.0 s.1 s.2) is
+      | inl s ↦ not_both s.0 r (is_read from bytes s.0 s.1) is
       | inr f ↦ subst (Refused from bytes) (err_is (sym (is_answer from bytes f.0 f.1) ∙ is)) f.1
     ]
 
@@ -76,8 +76,8 @@ pub one_fault : (from : Role) (bytes : List ℕ) (r q : DvcRefusal) → Refused 
 one_fault from bytes r q f g = err_is (sym (is_answer from bytes r f) ∙ is_answer from bytes q g)
 
 -- bytes that spell a PDU have no fault but their number
-pub not_both_ways : (from : Role) (bytes : List ℕ) (pdu : Pdu) (r : DvcRefusal) → Spells from bytes pdu → length bytes ≤ 1600 → Refused from bytes r → ⊥
-not_both_ways from bytes pdu r s h f = not_both pdu r (is_read from bytes pdu s h) (is_answer from bytes r f)
+pub not_both_ways : (from : Role) (bytes : List ℕ) (pdu : Pdu) (r : DvcRefusal) → Encodes from bytes pdu → Refused from bytes r → ⊥
+not_both_ways from bytes pdu r s f = not_both pdu r (is_read from bytes pdu s) (is_answer from bytes r f)
 
 -- ---- what a writer spells
 
@@ -134,7 +134,7 @@ written_spells from (Data id bytes) fits =
 
 -- what a writer spells is read back
 pub written_is_read : (from : Role) (pdu : Pdu) → IsPdu from pdu → reading from (spelled pdu) ≡ Ok pdu
-written_is_read from pdu fits = is_read from (spelled pdu) pdu (written_spells from pdu fits.0) fits.1
+written_is_read from pdu fits = is_read from (spelled pdu) pdu (written_spells from pdu fits.0, fits.1)
 
 -- no spelling of a PDU is shorter than the writer's
 pub shortest : (from : Role) (bytes : List ℕ) (pdu : Pdu) → Spells from bytes pdu → length (spelled pdu) ≤ length bytes
@@ -158,14 +158,14 @@ answer_is : (from : Role) (bytes : List ℕ) (r : Result DvcPdu DvcRefusal) → 
 answer_is from bytes (Ok p) h is = within from bytes h ∙ is
 answer_is from bytes (Err e) h is = within from bytes h ∙ is
 
-found_by : (from : Role) (bytes : List ℕ) (r : Result DvcPdu DvcRefusal) → IsBytes bytes → Answers pdu_of r (reading from bytes) → IfOk r (λ p. Spells from bytes (pdu_of p) × (length bytes ≤ 1600))
+found_by : (from : Role) (bytes : List ℕ) (r : Result DvcPdu DvcRefusal) → IsBytes bytes → Answers pdu_of r (reading from bytes) → IfOk r (λ p. Encodes from bytes (pdu_of p))
 found_by from bytes (Ok p) good is = was_spelled from bytes (pdu_of p) good is
 found_by from bytes (Err e) good is = tt
 
-only_by : (from : Role) (bytes : List ℕ) (r : Result DvcPdu DvcRefusal) → Answers pdu_of r (reading from bytes) → (pdu : Pdu) → Spells from bytes pdu → length bytes ≤ 1600
+only_by : (from : Role) (bytes : List ℕ) (r : Result DvcPdu DvcRefusal) → Answers pdu_of r (reading from bytes) → (pdu : Pdu) → Encodes from bytes pdu
     → IsOkAnd r (λ p. pdu_of p ≡ pdu)
-only_by from bytes (Ok p) is pdu s h = ok_is (pdu_of p) pdu is (is_read from bytes pdu s h)
-only_by from bytes (Err e) is pdu s h = not_both pdu e (is_read from bytes pdu s h) is
+only_by from bytes (Ok p) is pdu s = ok_is (pdu_of p) pdu is (is_read from bytes pdu s)
+only_by from bytes (Err e) is pdu s = not_both pdu e (is_read from bytes pdu s) is
 
 fault_by : (from : Role) (bytes : List ℕ) (r : Result DvcPdu DvcRefusal) → IsBytes bytes → Answers pdu_of r (reading from bytes) → IfErr r (λ e. Refused from bytes e)
 fault_by from bytes (Ok p) good is = tt
@@ -173,8 +173,8 @@ fault_by from bytes (Err e) good is = was_fault from bytes e good is
 
 -- what a reader of at most 1,600 bytes answered
 pub record Answered (from : Role) (bytes : List ℕ) (r : Result DvcPdu DvcRefusal) : Type 0 where
-  pub found : IfOk r (λ p. Spells from bytes (pdu_of p) × (length bytes ≤ 1600))
-  pub only : (pdu : Pdu) → Spells from bytes pdu → length bytes ≤ 1600 → IsOkAnd r (λ p. pdu_of p ≡ pdu)
+  pub found : IfOk r (λ p. Encodes from bytes (pdu_of p))
+  pub only : (pdu : Pdu) → Encodes from bytes pdu → IsOkAnd r (λ p. pdu_of p ≡ pdu)
   pub refused : IfErr r (λ e. Refused from bytes e)
 
 pub answered : (from : Role) (bytes : List ℕ) (s : Left) (r : Result DvcPdu DvcRefusal) → ((i : ℕ) → get_or bytes i 0 < 256) → length bytes ≤ 1600

@@ -1,6 +1,6 @@
 -- The layouts of channel PDUs (MS-RDPEDYC section 2.2): which bytes spell a PDU. A writer has a
 -- choice where a size is wider than needed or where bits and bytes have no meaning.
-use Rattle.std.specs.Prelude.{◌≡◌, ℕ, ◌+◌, ◌*◌, ◌^◌, ◌<◌, List, [], ◌∷◌}
+use Rattle.std.specs.Prelude.{◌≡◌, ℕ, ◌+◌, ◌*◌, ◌^◌, ◌<◌, ◌≤◌, List, [], ◌∷◌, length}
 use Rattle.byteorder.specs.Endian.{little_bytes}
 use Rattle.mt_base.specs.Writing.{joined}
 use Rattle.mt_base.specs.declared.kinds.Role.{Role}
@@ -46,3 +46,7 @@ pub record Spells (from : Role) (bytes : List ℕ) (pdu : Pdu) : Type 0 where
   pub allowed : Allows choice pdu
   pub fits : Fits from pdu
   pub bytes_are : bytes ≡ joined (layout choice pdu)
+
+-- these bytes are this PDU of this end: they spell it, and are at most 1,600
+abbrev pub Encodes : Role → List ℕ → Pdu → Type 0
+Encodes from bytes pdu = Spells from bytes pdu × (length bytes ≤ 1600)

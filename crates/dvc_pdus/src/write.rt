@@ -1,13 +1,14 @@
 //! Writing PDUs.
 
-ghost use Rattle.std.specs.Prelude.{◌≡◌, ◌+◌, ◌*◌, ◌<◌, ◌^◌, ◌++◌, [], length, drop, IfOk, IfErr, Err, ℕ};
-ghost use Rattle.mt_base.specs.Writing.{Writes, put, puts};
+ghost use Rattle.std.specs.Prelude.{◌≡◌, ◌+◌, ◌*◌, ◌<◌, ◌≤◌, ◌^◌, ◌++◌, [], length, drop, IfOk, IfErr, OnOk, OnErr, Err, ℕ};
+ghost use Rattle.mt_base.specs.Writing.{Writes, put, puts, joined};
 ghost use Rattle.mt_base.specs.OutView.{spot};
 ghost use Rattle.mt_base.specs.declared.kinds.Role.{Role};
 ghost use Rattle.dvc_pdus.specs.Value.{Fits, fields, spelled, header, smallest, size_code, charge_fields};
 ghost use Rattle.dvc_pdus.specs.Views.{pdu_of};
 
 use crate::pdu::DvcPdu;
+use crate::room::Room;
 use mt_base::{NoRoom, Out};
 
 /// The code of the smallest size that an id fits.
@@ -91,15 +92,26 @@ fn put_pdu(out: &mut Out<'_>, pdu: &DvcPdu<'_>) -> Result<(), NoRoom>
     }
 }
 
+/// Whether all fields of a PDU find a place.
+fn find_room(pdu: &DvcPdu<'_>, out: &[u8]) -> Result<(), NoRoom>
+    ensures found { OnOk result (length (joined (fields (pdu_of pdu.now))) ≤ length out.now) }
+    ensures refused { IfErr result (λ e. puts (fields (pdu_of pdu.now)) (record { before = []; after = out.now }) ≡ Err e) }
+{
+    Room::new(out.len()).pass_pdu(pdu)
+}
+
 /// Writes a PDU at the front of `out`, and gives the number of its bytes (MS-RDPEDYC section 2.2).
 /// Ids have the smallest size that they fit, and the bits and bytes without a meaning are zero.
 ///
-/// Where a field does not fit it is [`NoRoom`], with that field's place and length.
+/// Where a field does not fit it is [`NoRoom`], with that field's place and length, and `out` stays as
+/// it was.
 pub fn write_dvc(pdu: &DvcPdu<'_>, out: &mut [u8]) -> Result<usize, NoRoom>
     requires { (from : Role) × Fits from (pdu_of pdu.now) }
     ensures ok { let text = spelled (pdu_of pdu.now) in IfOk result (λ n. (n ≡ length text) × (out.new ≡ text ++ drop n out.old)) }
     ensures no_room { IfErr result (λ e. puts (fields (pdu_of pdu.now)) (record { before = []; after = out.old }) ≡ Err e) }
+    ensures unchanged { OnErr result (out.new ≡ out.old) }
 {
+    find_room(pdu, out)?;
     let mut place = Out::new(out);
     put_pdu(&mut place, pdu)?;
     Ok(place.at())

@@ -5,10 +5,20 @@
 //! between a text and the events that its lines spell, and that reading gives exactly those.
 #![tactic(auto)]
 
+mod cut;
 mod event;
+mod fault;
+mod laws;
+mod line;
 mod script;
 mod text;
+mod values;
+mod words;
 
 pub use event::{Event, Line, ScriptRefusal};
+pub use laws::{cut_into_lines, one_answer, one_meaning, one_spelling};
 pub use script::{Script, read_script};
 pub use text::Text;
+
+#[cfg(test)]
+mod tests;

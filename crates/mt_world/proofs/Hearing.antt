@@ -10,7 +10,7 @@ use Rattle.byteorder.specs.Endian.{little_bytes}
 use Rattle.dvc_pdus.specs.Value.{Pdu, IsPdu, spelled}
 use Rattle.dvc_pdus.specs.Reading.{reading}
 use Rattle.mt_world.specs.Frames.{framed, frame_of, read_pdu}
-use Rattle.mt_world.specs.Acts.{Entry, Act, Made, Opened, Sent, MainIn, MainOut, Took, Began, Opens, Sends, Reads, Past, with_act, with_byte, with_frame, past, taken}
+use Rattle.mt_world.specs.Acts.{Entry, Act, Made, Opened, Sent, MainIn, MainOut, Took, Began, Opens, Sends, Reads, Past, with_act, with_byte, with_frame, past, reads, taken}
 use Rattle.mt_world.specs.Net.{IsPrefixOf}
 use Rattle.mt_world.proofs.Fronts.{front-trans, front-same, front-append}
 
@@ -25,12 +25,6 @@ ends_in pdus part (Some pdu) = (pdus ++ pdu ∷ [], [])
 -- one more byte of this end's
 unfoldable pub hear : Role → Heard → ℕ → Heard
 hear from h byte = ends_in h.0 (h.1 ++ byte ∷ []) (frame_of from (h.1 ++ byte ∷ []))
-
--- the PDUs that an end has read
-abbrev pub reads : Trace Act → List Pdu
-reads Start = []
-reads (t ▷ Reads pdu) = reads t ++ pdu ∷ []
-reads (t ▷ act) = reads t
 
 -- a past as what was heard
 abbrev pub heard_of : Past → Heard

@@ -10,3 +10,4 @@ pub mod Outgoing
 pub mod Safety
 pub mod SpelledBytes
 pub mod PlayedNet
+pub mod Cuts

@@ -6,8 +6,7 @@ use Rattle.mt_base.specs.declared.kinds.Role.{Role}
 use Rattle.mt_base.specs.declared.kinds.Role.TheVariants.{Server, Client}
 use Rattle.mt_base.specs.Trace.{Trace, Start, ◌▷◌}
 use Rattle.dvc_pdus.specs.Value.{Pdu, Caps, CreateRequest, CreateResponse, Data}
-use Rattle.mt_world.specs.Acts.{Act, Began, Opens, Sends, Reads, adds, reply, outgoing, sent, delivered, message_in}
-use Rattle.mt_world.proofs.Hearing.{reads}
+use Rattle.mt_world.specs.Acts.{Act, Began, Opens, Sends, Reads, adds, reply, outgoing, sent, delivered, message_in, reads}
 
 -- the messages of a channel in PDUs
 abbrev pub messages_in : ℕ → List Pdu → List (List ℕ)

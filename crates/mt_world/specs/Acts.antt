@@ -86,6 +86,12 @@ outgoing role (t ▷ act) = outgoing role t ++ adds act role
 unfoldable pub written : Role → Trace Act → List ℕ
 written role acts = flat_map framed (outgoing role acts)
 
+-- all PDUs that an end has read in full, in order
+abbrev pub reads : Trace Act → List Pdu
+reads Start = []
+reads (t ▷ Reads pdu) = reads t ++ pdu ∷ []
+reads (t ▷ act) = reads t
+
 -- the messages of a channel that were sent, in order
 abbrev pub sent : ℕ → Trace Act → List (List ℕ)
 sent id Start = []

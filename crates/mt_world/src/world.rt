@@ -1,6 +1,7 @@
 //! A world: two sides and the main stream between them.
 
 use crate::refusal::StepRefusal;
+use crate::report::Report;
 use crate::side::Side;
 use mt_base::{NoMemory, Role};
 use mt_script::{Event, Text};
@@ -117,6 +118,12 @@ impl World {
     pub fn report(&self) -> Result<Text, NoMemory>
         ensures { IfOk result (λ text. (w : Trace (Role × Entry)) → Stands self.now w → text ≡ report w) }
     {
-        Err(NoMemory)
+        let mut report = Report::new(self.alloc);
+        if let Some(name) = self.server.end().names().first() {
+            report.channel(1, name.bytes(), Role::Server, &self.server, &self.client)?;
+            report.channel(1, name.bytes(), Role::Client, &self.client, &self.server)?;
+        }
+        report.main(self.client.arrived(), self.server.arrived())?;
+        Ok(report.into_text())
     }
 }

@@ -11,4 +11,4 @@ pub returns-clause-one_of_both : goal.returns-clause-one_of_both
 returns-clause-one_of_both c from bytes good = spelled_or from bytes good
 
 pub returns-clause-never_both : goal.returns-clause-never_both
-returns-clause-never_both c from bytes pdu r s h f = not_both_ways from bytes pdu r s h f
+returns-clause-never_both c from bytes pdu r s f = not_both_ways from bytes pdu r s f
