@@ -35,18 +35,6 @@ put_refused f s e h =
 pub big_bytes_1 : (byte : ℕ) → byte < 256 → big_bytes 1 byte ≡ byte ∷ []
 big_bytes_1 byte small = let e : byte_at 0 byte ≡ byte = omega arith in ap (λ b. b ∷ []) e
 
--- before the first byte
-pub under_way_first : (whole from : List ℕ) (s : Spot) → s ≡ record { before = []; after = from }
-    → IsUnderWay whole whole from s
-under_way_first whole from s is =
-    let none : s.before ≡ [] = ap (λ (x : Spot). x.before) is in
-    let long : length s.before ≡ 0 = ap length none in
-    record {
-      so_far = ap (λ x. x ++ whole) none;
-      behind = ap (λ (x : Spot). x.after) is ∙ ap (λ n. drop n from) (sym long);
-      fits = omega arith;
-    }
-
 -- one byte more
 pub under_way_more : (whole todo from : List ℕ) (byte : ℕ) (s t : Spot) → byte < 256
     → IsUnderWay whole (byte ∷ todo) from s → put (big_bytes 1 byte) s ≡ Ok t

@@ -1,5 +1,5 @@
 -- Lemmas on stretches of equal flags.
-use Rattle.std.proofs.Common.{◌≡◌, ℕ, zero, suc, ◌<◌, ◌≤◌, Bool, true, false, not, cond, List, [], ◌∷◌, length, take, replicate, Some, slice_get, refl, arith}
+use Rattle.std.proofs.Common.{◌≡◌, ℕ, zero, suc, ◌<◌, ◌≤◌, Bool, true, false, not, cond, List, [], ◌∷◌, take, replicate, Some, slice_get, refl, arith}
 use Rattle.std.specs.List.{prefix_len}
 use Rattle.std.proofs.lemmas.List.{length-take}
 use Rattle.std.proofs.lemmas.List.Sums.{prefix_len-le-length}
@@ -17,14 +17,6 @@ stretch_some (suc m) false fs h = omega arith
 -- it is no longer than m
 pub stretch_short : (m : ℕ) (f : Bool) (fs : List Bool) → stretch m f fs ≤ m
 stretch_short m f fs = omega (
-  arith,
-  prefix_len-le-length (λ g. cond f g (not g)) (take m fs),
-  length-take m fs,
-)
-
--- nor than the flags
-pub stretch_within : (m : ℕ) (f : Bool) (fs : List Bool) → stretch m f fs ≤ length fs
-stretch_within m f fs = omega (
   arith,
   prefix_len-le-length (λ g. cond f g (not g)) (take m fs),
   length-take m fs,
