@@ -1,3 +1,4 @@
 pub mod Fill
 pub mod Numbers
 pub mod Fields
+pub mod LowPart
