@@ -11,8 +11,8 @@ use Rattle.mt_base.specs.Writing.{joined}
 use Rattle.mt_base.specs.declared.kinds.Role.{Role}
 use Rattle.mt_base.specs.declared.kinds.Role.TheVariants.{Server, Client}
 use Rattle.mt_base.proofs.Numbers.{IsBytes}
-use Rattle.mt_base.proofs.Fields.{behind, as_err}
-use Rattle.mt_base.proofs.Fronts.{left_at, byte_reads, big_cut, Begins, little_or}
+use Rattle.mt_base.proofs.Fields.{behind, as_err, Begins, little_or}
+use Rattle.mt_base.proofs.Fronts.{left_at, byte_reads, big_cut}
 use Rattle.dvc_pdus.specs.declared.command.Command.TheVariants as command
 use Rattle.dvc_pdus.specs.declared.pdu.DvcRefusal.{DvcRefusal}
 use Rattle.dvc_pdus.specs.declared.pdu.DvcRefusal.TheVariants as refusal

@@ -2,13 +2,15 @@
 -- A chain of reads is taken apart by `step` and `missed`, one field at a time, and put together
 -- by `again`.
 use Rattle.std.proofs.Common.{◌≡◌, ℕ, ◌+◌, ◌^◌, ◌<◌, ◌≤◌, ◌⊎◌, inl, inr, Bool, true, false, cond, ltb, List, [], ◌∷◌, ◌++◌, length, take, drop, Result, Ok, Err, refl, sym, ap, ◌∙◌, subst, arith}
-use Rattle.std.proofs.lemmas.Bool.{ltb-true, ltb-false, lt-ltb, le-ltb}
-use Rattle.std.proofs.lemmas.List.{drop_at, length-take-le, length-append, take-append-drop, take_at}
+use Rattle.std.proofs.lemmas.Bool.{cases_lt, ltb-true, ltb-false, lt-ltb, le-ltb}
+use Rattle.std.proofs.lemmas.List.{drop_at, length-take, length-take-le, length-append, take-append-drop, take_at}
 use Rattle.std.proofs.lemmas.List.Elements.{All-drop, All-take}
 use Rattle.byteorder.specs.Endian.{big_bytes, little_bytes, big_number, little_number}
 use Rattle.byteorder.specs.Numbers.{big_number-reads_back, little_number-reads_back, length-bytes_high_first, length-bytes_low_first}
 use Rattle.mt_base.specs.declared.errors.Short.{Short}
 use Rattle.mt_base.specs.Reading.{Left, past, field, block, big, little}
+use Rattle.mt_base.specs.Writing.{Spot, puts, joined}
+use Rattle.mt_base.proofs.Fill.{finished}
 use Rattle.mt_base.proofs.Numbers.{IsBytes, little_number-lt, big_number-lt, little_bytes-number, big_bytes-number}
 
 -- the next read, where the one before it went well
@@ -220,6 +222,41 @@ byte_seen = record {
     first [] long = absurd (omega arith)
     first (x ∷ xs) long = ap (λ n. n ∷ []) (omega arith)
 
+-- bytes begin with a value of this spelling
+pub record Begins {A : Type 0} (spelling : A → List ℕ) (Good : A → Type 0) (bytes : List ℕ) : Type 0 where
+  pub value : A
+  pub rest : List ℕ
+  pub good : Good value
+  pub bytes_are : bytes ≡ spelling value ++ rest
+  pub bytes_behind : IsBytes rest
+
+begins_or : {A : Type 0} (n : ℕ) (f : List ℕ → A) (spelling : A → List ℕ) (Good : A → Type 0) → Sees n f spelling Good
+    → (bytes : List ℕ) → IsBytes bytes → (length bytes < n) ⊎ Begins spelling Good bytes
+begins_or n f spelling Good sees bytes good =
+    elim (cases_lt (length bytes) n) [
+      | inl few ↦ inl few
+      | inr enough ↦ inr (record {
+        value = f bytes;
+        rest = drop n bytes;
+        good = sees.is_good bytes enough good;
+        bytes_are = sym (take-append-drop n bytes) ∙ ap (λ t. t ++ drop n bytes) (sym (sees.bytes_are bytes enough good));
+        bytes_behind = All-drop (λ b. b < 256) n bytes good;
+      })
+    ]
+
+-- bytes are fewer than a field has, or begin with it: n bytes as they are, a byte, a number
+pub block_or : (n : ℕ) (bytes : List ℕ) → IsBytes bytes → (length bytes < n) ⊎ Begins (λ x. x) (λ x. (length x ≡ n) × IsBytes x) bytes
+block_or n = begins_or n (take n) (λ x. x) (λ x. (length x ≡ n) × IsBytes x) (bytes_seen n)
+
+pub byte_or : (bytes : List ℕ) → IsBytes bytes → (length bytes < 1) ⊎ Begins (λ x. x ∷ []) (λ x. x < 256) bytes
+byte_or = begins_or 1 (big_number 1) (λ x. x ∷ []) (λ x. x < 256) byte_seen
+
+pub little_or : (n : ℕ) (bytes : List ℕ) → IsBytes bytes → (length bytes < n) ⊎ Begins (little_bytes n) (λ x. x < 256 ^ n) bytes
+little_or n = begins_or n (little_number n) (little_bytes n) (λ x. x < 256 ^ n) (little_seen n)
+
+pub big_or : (n : ℕ) (bytes : List ℕ) → IsBytes bytes → (length bytes < n) ⊎ Begins (big_bytes n) (λ x. x < 256 ^ n) bytes
+big_or n = begins_or n (big_number n) (big_bytes n) (λ x. x < 256 ^ n) (big_seen n)
+
 -- n bytes as they are
 pub block_law : {E : Type 0} (wrap : Short → E) (n : ℕ) → Field (λ s. cut_as wrap (block n s)) (λ x. x) (λ x. (length x ≡ n) × IsBytes x)
 block_law wrap n = field_law wrap n (take n) (λ x. x) (λ x. (length x ≡ n) × IsBytes x) (bytes_seen n)
@@ -235,3 +272,13 @@ little_law wrap n = field_law wrap n (little_number n) (little_bytes n) (λ x. x
 -- a number of n bytes, the highest first
 pub big_law : {E : Type 0} (wrap : Short → E) (n : ℕ) → Field (λ s. cut_as wrap (big n s)) (big_bytes n) (λ x. x < 256 ^ n)
 big_law wrap n = field_law wrap n (big_number n) (big_bytes n) (λ x. x < 256 ^ n) (big_seen n)
+
+-- What a writer hands back that began at a buffer's first byte and wrote these fields: their
+-- length, which it told as the length of what stands before its place, and the buffer.
+pub handed : (fs : List (List ℕ)) (from last whole : List ℕ) (at told : ℕ) (first : Spot) → at ≤ length last → told ≡ length (take at last) → whole ≡ last
+    → first ≡ record { before = []; after = from } → puts fs first ≡ Ok (record { before = take at last; after = drop at last })
+    → (told ≡ length (joined fs)) × (whole ≡ joined fs ++ drop told from)
+handed fs from last whole at told first within tells is starts written =
+    let done = finished fs (joined fs) from last at first within refl starts written in
+    let same : told ≡ at = omega (arith, length-take at last) in
+    (same ∙ done.0, is ∙ done.1 ∙ ap (λ n. joined fs ++ drop n from) (sym same))

@@ -1,6 +1,9 @@
 pub mod Fill
-pub mod Written
 pub mod Numbers
 pub mod Fields
 pub mod Fronts
 pub mod Meanings
+pub mod Lists
+pub mod Bytes
+pub mod Stretches
+pub mod LowPart

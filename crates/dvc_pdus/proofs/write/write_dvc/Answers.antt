@@ -1,5 +1,5 @@
 use Rattle.std.proofs.Common.{rules, arith}
-use Rattle.mt_base.proofs.Written.{handed}
+use Rattle.mt_base.proofs.Fields.{handed}
 use Rattle.dvc_pdus.specs.Value.{fields}
 use Rattle.dvc_pdus.specs.Views.{pdu_of}
 use Rattle.dvc_pdus.proofs.Spaces.{never_refused}

@@ -1,0 +1,10 @@
+pub mod Frames
+pub mod Acts
+pub mod Ends
+pub mod Net
+pub mod Play
+pub mod EndView
+pub mod SideView
+pub mod WorldView
+pub mod Report
+pub mod Stream
