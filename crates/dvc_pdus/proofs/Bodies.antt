@@ -1,5 +1,5 @@
 -- What the reading of each body gives: at the bytes that spell it, and at each fault.
-use Rattle.std.proofs.Common.{◌≡◌, ◌≢◌, ◌⊎◌, inl, inr, ℕ, zero, suc, ◌+◌, ◌*◌, ◌/◌, ◌%◌, ◌^◌, ◌<◌, ◌≤◌, Bool, true, false, List, [], ◌∷◌, ◌++◌, length, map, take, drop, Option, Some, None, Result, Ok, Err, refl, sym, ap, ◌∙◌, subst, arith, append_assoc, append-nil}
+use Rattle.std.proofs.Common.{◌≡◌, eqb, ℕ, ◌+◌, ◌*◌, ◌^◌, ◌<◌, false, List, [], ◌∷◌, ◌++◌, length, map, Some, None, Ok, Err, refl, sym, ap, ◌∙◌, subst, arith}
 use Rattle.std.specs.List.{All}
 use Rattle.std.proofs.lemmas.Bool.{ne_eqb, cond-false}
 use Rattle.std.proofs.lemmas.List.Elements.{All-head, All-tail}
@@ -79,7 +79,7 @@ Charge c = c < 2 ^ 16
 cut_at : (m n : ℕ) (rest : List ℕ) (r : DvcRefusal) → m ≡ n → Cut m 2 rest r → Cut n 2 rest r
 cut_at m n rest r same fault = subst (λ n. Cut n 2 rest r) same fault
 
-not_empty : (xs : List ℕ) → 0 < length xs → Rattle.std.proofs.Common.eqb (length xs) 0 ≡ false
+not_empty : (xs : List ℕ) → 0 < length xs → eqb (length xs) 0 ≡ false
 not_empty xs h = ne_eqb (length xs) 0 (λ e. omega arith)
 
 charges_none : (n : ℕ) → charges_at (left_at n []) ≡ Ok (None, left_at n [])

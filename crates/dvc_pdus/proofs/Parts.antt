@@ -6,8 +6,7 @@ use Rattle.std.proofs.lemmas.List.{length-append, length-take, take-append-drop,
 use Rattle.std.proofs.Math.Seq.{take-append-add}
 use Rattle.std.proofs.lemmas.List.Elements.{All-cons, All-nil, All-head, All-tail}
 use Rattle.mt_base.specs.Reading.{Left, past}
-use Rattle.mt_base.proofs.Numbers.{IsBytes}
-use Rattle.mt_base.proofs.Fields.{Field, Plainly, Refuses, CutShort, behind, field_refuses, little_law, as_err, err_is, not_both, ok_is, taken_by}
+use Rattle.mt_base.proofs.Fields.{Field, Plainly, Refuses, CutShort, behind, field_refuses, little_law, as_err, not_both, taken_by}
 use Rattle.dvc_pdus.specs.declared.pdu.DvcRefusal.{DvcRefusal}
 use Rattle.dvc_pdus.specs.declared.pdu.DvcRefusal.TheVariants as refusal
 use Rattle.dvc_pdus.specs.Value.{Pdu, IsNameByte, IsName}
@@ -34,25 +33,10 @@ unfolding id_at
 bad_size size s h =
     rw (ne_eqb size 0 (λ e. omega arith), ne_eqb size 1 (λ e. omega arith), ne_eqb size 2 (λ e. omega arith)) refl
 
--- where an id was read its size was one of the three
-pub id_size : (size : ℕ) (s : Left) (x : ℕ × Left) → id_at size s ≡ Ok x → size < 3
-id_size size s x is =
-    elim (cases_lt size 3) [
-      | inl h ↦ h
-      | inr h ↦ not_both x (refusal.BadCbId 0) is (bad_size size s h)
-    ]
-
 cut_refused : (size : ℕ) → size < 3 → Refuses (id_at size) (CutShort refusal.Short (2 ^ size))
 unfolding id_at
 cut_refused = three (λ size. Refuses (id_at size) (CutShort refusal.Short (2 ^ size)))
     (field_refuses refusal.Short 1 _) (field_refuses refusal.Short 2 _) (field_refuses refusal.Short 4 _)
-
-pub id_which : (size : ℕ) (bytes : List ℕ) (r : DvcRefusal) → size < 4 → IsBytes bytes → id_at size (record { at = 1; bytes = bytes }) ≡ Err r → RefusedId size bytes r
-id_which size bytes r small good is =
-    elim (cases_lt size 3) [
-      | inl h ↦ id_cut h ((cut_refused size h).which (record { at = 1; bytes = bytes }) r good is)
-      | inr h ↦ size_unknown (omega arith) (err_is is (bad_size size (record { at = 1; bytes = bytes }) h))
-    ]
 
 pub id_answer : (size : ℕ) (bytes : List ℕ) (r : DvcRefusal) → RefusedId size bytes r → id_at size (record { at = 1; bytes = bytes }) ≡ Err r
 id_answer size bytes r (size_unknown three is) = as_err (bad_size size (record { at = 1; bytes = bytes }) (omega arith)) is
@@ -67,22 +51,6 @@ ended_none pdu at = refl
 pub ended_more : (pdu : Pdu) (at b : ℕ) (rest : List ℕ) → ended pdu (record { at = at; bytes = b ∷ rest }) ≡ Err (refusal.Trailing at)
 unfolding ended
 ended_more pdu at b rest = rw (lt-ltb 0 (length (b ∷ rest)) (omega arith)) refl
-
--- where nothing was refused at the end, nothing is left
-pub ended_ok : (pdu p : Pdu) (at : ℕ) (bytes : List ℕ) → ended pdu (record { at = at; bytes = bytes }) ≡ Ok p → (p ≡ pdu) × (bytes ≡ [])
-ended_ok pdu p at [] is = (ok_is p pdu is (ended_none pdu at), refl)
-ended_ok pdu p at (b ∷ rest) is = not_both p (refusal.Trailing at) is (ended_more pdu at b rest)
-
--- what is left where something was
-pub record More (at : ℕ) (bytes : List ℕ) (r : DvcRefusal) : Type 0 where
-  pub first : ℕ
-  pub rest : List ℕ
-  pub bytes_are : bytes ≡ first ∷ rest
-  pub refusal_is : r ≡ refusal.Trailing at
-
-pub ended_err : (pdu : Pdu) (at : ℕ) (bytes : List ℕ) (r : DvcRefusal) → ended pdu (record { at = at; bytes = bytes }) ≡ Err r → More at bytes r
-ended_err pdu at [] r is = not_both pdu r (ended_none pdu at) is
-ended_err pdu at (b ∷ rest) r is = record { first = b; rest = rest; bytes_are = refl; refusal_is = err_is is (ended_more pdu at b rest) }
 
 -- ---- the name
 
@@ -107,10 +75,6 @@ off_byte b bad =
       | inl on ↦ absurd (bad (name_byte b on))
       | inr off ↦ off
     ]
-
--- the place of the first byte that is none of a name, counted from i
-end_from : ℕ → List ℕ → Option ℕ
-end_from i xs = position_from (λ b. not (is_name_byte b)) i xs
 
 -- the bytes of a name, and the one that is none
 record Stop (xs : List ℕ) (i k : ℕ) : Type 0 where
@@ -268,11 +232,3 @@ name_law = record {
   ];
   again = ends_at;
 }
-
--- which fault of a name is the answer
-pub name_which : (s : Left) (r : DvcRefusal) → name_at s ≡ Err r → RefusedName s.at s.bytes r
-name_which s r is =
-    elim (named_or s.at s.bytes) [
-      | named name rest fits whole ↦ not_both (name, behind s (name ++ (0 ∷ [])) rest) r (ends_at name (name ++ (0 ∷ [])) (fits, refl) s rest whole) is
-      | misnamed q fault ↦ subst (RefusedName s.at s.bytes) (err_is (name_answer s q fault) is) fault
-    ]

@@ -17,10 +17,6 @@ charge_lengths (c ∷ charges) = ap (λ ns. 2 ∷ ns) (charge_lengths charges)
 pub each_step : (k count n : ℕ) (s : Space) → k < count → passes (replicate (count - k) n) s ≡ then_pass (pass n s) (passes (replicate (count - (k + 1)) n))
 each_step k count n s h = let e : count - k ≡ suc (count - (k + 1)) = omega arith in ap (λ m. passes (replicate m n) s) e
 
--- none is left
-pub each_done : (k count n : ℕ) (s : Space) → count ≤ k → passes (replicate (count - k) n) s ≡ Ok s
-each_done k count n s h = let e : count - k ≡ 0 = omega arith in ap (λ m. passes (replicate m n) s) e
-
 -- one of them is passed over, and what passing over all gives stays
 pub each_kept : (k count n : ℕ) (s t : Space) (r : Result Space NoRoom) → k < count → passes (replicate (count - k) n) s ≡ r → pass n s ≡ Ok t → passes (replicate (count - (k + 1)) n) t ≡ r
 each_kept k count n s t r h is one = sym (ap (λ q. then_pass q (passes (replicate (count - (k + 1)) n))) one) ∙ sym (each_step k count n s h) ∙ is

@@ -132,10 +132,6 @@ spelled_reads from bytes (Data id content) s =
 
 -- ---- each fault is the answer
 
-body_answer : (from : Role) (bytes : List ℕ) (command own size : ℕ) (rest : List ℕ) (r : DvcRefusal) → command < 16 → Headed bytes command own size rest
-    → body_at from (command_of command) own size (left_at 1 rest) ≡ Err r → pdu_at from (left_at 0 bytes) ≡ Err r
-body_answer from bytes command own size rest r small headed is = headed_reads from bytes command own size rest small headed ∙ is
-
 header_answer : (from : Role) (bytes : List ℕ) (r : DvcRefusal) → Cut 0 1 bytes r → pdu_at from (left_at 0 bytes) ≡ Err r
 unfolding pdu_at
 header_answer from bytes r fault = rw (big_cut refusal.Short 1 0 bytes r fault) refl
