@@ -1,2 +1,5 @@
 pub mod Fill
 pub mod Fields
+pub mod Lists
+pub mod Bytes
+pub mod Stretches

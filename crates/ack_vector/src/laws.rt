@@ -1,0 +1,23 @@
+//! Laws of the vector: what is written spells the flags, in the longest stretches.
+
+ghost use Rattle.std.specs.Prelude.{◌≡◌, ◌≤◌, ℕ, Bool, List, length, map, flat_map};
+ghost use Rattle.ack_vector.specs.Elements.{Spell, flags_in, flags_of, run_of};
+ghost use Rattle.ack_vector.specs.Longest.{HoldLongest, elements_of};
+
+/// Each element that is written holds the longest stretch of equal flags that comes next, at most
+/// 63, and no other list of elements does so.
+pub fn longest_stretches()
+    ensures held { (flags : List Bool) → HoldLongest (elements_of flags) flags }
+    ensures only { (es : List ℕ) (flags : List Bool) → HoldLongest es flags → es ≡ elements_of flags }
+{}
+
+/// What is written for flags spells just these flags, in no more elements than flags.
+pub fn written_spells()
+    ensures spells { (flags : List Bool) → Spell (elements_of flags) flags }
+    ensures few { (flags : List Bool) → length (elements_of flags) ≤ length flags }
+{}
+
+/// The flags of a vector are those of its runs, joined in order.
+pub fn flags_of_runs()
+    ensures { (es : List ℕ) → flags_of es ≡ flat_map flags_in (map run_of es) }
+{}
