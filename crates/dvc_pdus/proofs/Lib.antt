@@ -1,0 +1,4 @@
+pub mod Parts
+pub mod Bodies
+pub mod Whole
+pub mod Theorems

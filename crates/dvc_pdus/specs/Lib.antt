@@ -1,3 +1,5 @@
 pub mod Value
 pub mod Reading
 pub mod Views
+pub mod Layout
+pub mod Faults

@@ -1,12 +1,18 @@
 //! The PDUs of dynamic virtual channels (MS-RDPEDYC section 2.2), read from and written into
-//! borrowed bytes.
+//! borrowed bytes: creating a channel, data, and capabilities.
+//!
+//! Below it stands `mt_base` alone, with its cursor and its place for writing. What the crates
+//! above use is that [`read_dvc`] gives the PDU that bytes spell or their first fault, that
+//! [`write_dvc`] writes the shortest bytes that spell a PDU, and that these are read back.
 #![tactic(auto)]
 
 mod command;
+mod laws;
 mod pdu;
 mod read;
 mod write;
 
+pub use laws::{one_meaning, written_is_read};
 pub use pdu::{DvcPdu, DvcRefusal};
 pub use read::read_dvc;
 pub use write::write_dvc;

@@ -1,9 +1,12 @@
 //! Reading PDUs.
 
-ghost use Rattle.std.specs.Prelude.{◌≡◌, ◌+◌, ◌<◌, ◌^◌, length, take, IfSome, ℕ, not};
+ghost use Rattle.std.specs.Prelude.{◌≡◌, ◌+◌, ◌<◌, ◌≤◌, ◌^◌, length, take, IfSome, IfOk, IfErr, IsOkAnd, ℕ, not};
 ghost use Rattle.std.specs.List.{position_from};
 ghost use Rattle.mt_base.specs.CursorView.{left};
 ghost use Rattle.dvc_pdus.specs.Reading.{Reads, Answers, id_at, ended, is_name_byte, name_to, name_at, charges_at, capabilities_at, create_request_at, create_response_at, data_at, body_at, pdu_at, reading};
+ghost use Rattle.dvc_pdus.specs.Value.{Pdu};
+ghost use Rattle.dvc_pdus.specs.Layout.{Spells};
+ghost use Rattle.dvc_pdus.specs.Faults.{Refused};
 ghost use Rattle.dvc_pdus.specs.Views.{pdu_of};
 
 use crate::command::Command;
@@ -182,7 +185,14 @@ fn pdu<'a>(from: &mut Cursor<'a>, writer: Role) -> Result<DvcPdu<'a>, DvcRefusal
 /// fault in the order of the fields is the refusal.
 #[tactic(auto, unfolding(crate::specs::Reading::reading))]
 pub fn read_dvc(from: Role, bytes: &[u8]) -> Result<DvcPdu<'_>, DvcRefusal>
-    ensures { Answers pdu_of result (reading from bytes.now) }
+    // What is read was spelled, in at most 1,600 bytes.
+    ensures found { IfOk result (λ pdu. Spells from bytes.now (pdu_of pdu) × (length bytes.now ≤ 1600)) }
+    // What is spelled so is read.
+    ensures only { (pdu : Pdu) → Spells from bytes.now pdu → length bytes.now ≤ 1600 → IsOkAnd result (λ answer. pdu_of answer ≡ pdu) }
+    // A refusal is the first fault.
+    ensures refused { IfErr result (λ refusal. Refused from bytes.now refusal) }
+    // The same as a function of the bytes.
+    ensures exact { Answers pdu_of result (reading from bytes.now) }
 {
     if bytes.len() > LIMIT {
         return Err(DvcRefusal::TooLong { at: LIMIT });

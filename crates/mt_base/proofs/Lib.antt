@@ -1,4 +1,5 @@
 pub mod Fill
+pub mod Numbers
 pub mod Fields
 pub mod Lists
 pub mod Bytes

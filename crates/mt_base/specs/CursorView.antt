@@ -1,5 +1,4 @@
 -- A cursor as the place and the bytes that are left.
-use Rattle.std.specs.Prelude.{ℕ}
 use Rattle.mt_base.specs.Reading.{Left}
 use Rattle.mt_base.specs.declared.input.Cursor.{Cursor}
 

@@ -1,5 +1,5 @@
 -- A place in a buffer as the bytes before it and after it.
-use Rattle.std.specs.Prelude.{ℕ, take, drop}
+use Rattle.std.specs.Prelude.{take, drop}
 use Rattle.mt_base.specs.Writing.{Spot}
 use Rattle.mt_base.specs.declared.output.Out.{Out}
 

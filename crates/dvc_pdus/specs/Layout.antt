@@ -1,0 +1,48 @@
+-- The layouts of channel PDUs (MS-RDPEDYC section 2.2): which bytes spell a PDU. A writer has a
+-- choice where a size is wider than needed or where bits and bytes have no meaning.
+use Rattle.std.specs.Prelude.{◌≡◌, ℕ, ◌+◌, ◌*◌, ◌^◌, ◌<◌, List, [], ◌∷◌}
+use Rattle.byteorder.specs.Endian.{little_bytes}
+use Rattle.mt_base.specs.Writing.{joined}
+use Rattle.mt_base.specs.declared.kinds.Role.{Role}
+use Rattle.dvc_pdus.specs.Value.{Pdu, Caps, CreateRequest, CreateResponse, Data, Fits, charge_fields}
+
+-- What a writer may choose: the code of the id's size, the two bits of the header byte where the
+-- command gives them no meaning, and the pad byte.
+pub record Choice : Type 0 where
+  pub size : ℕ
+  pub unnamed : ℕ
+  pub pad : ℕ
+
+-- the header byte: the command in the upper four bits, two bits of the command's own, and the code
+-- of the id's size in the lowest two
+abbrev pub first_byte : ℕ → ℕ → ℕ → List ℕ
+first_byte command own size = (command * 16 + own * 4 + size) ∷ []
+
+-- an id in the size of a code: 1, 2 or 4 bytes for 0, 1 or 2
+abbrev pub id_in : ℕ → ℕ → List ℕ
+id_in size id = little_bytes (2 ^ size) id
+
+-- the code has a size, and the id fits it
+abbrev pub IsSizeOf : ℕ → ℕ → Type 0
+IsSizeOf size id = (size < 3) × (id < 256 ^ 2 ^ size)
+
+-- the fields of a PDU in order
+abbrev pub layout : Choice → Pdu → List (List ℕ)
+layout c (Caps version charges) = first_byte 5 c.unnamed c.size ∷ (c.pad ∷ []) ∷ little_bytes 2 version ∷ charge_fields charges
+layout c (CreateRequest id priority name) = first_byte 1 priority c.size ∷ id_in c.size id ∷ name ∷ (0 ∷ []) ∷ []
+layout c (CreateResponse id status) = first_byte 1 c.unnamed c.size ∷ id_in c.size id ∷ little_bytes 4 status ∷ []
+layout c (Data id bytes) = first_byte 3 c.unnamed c.size ∷ id_in c.size id ∷ bytes ∷ []
+
+-- a choice that the layout of this PDU has
+abbrev pub Allows : Choice → Pdu → Type 0
+Allows c (Caps version charges) = (c.unnamed < 4) × (c.size < 4) × (c.pad < 256)
+Allows c (CreateRequest id priority name) = IsSizeOf c.size id
+Allows c (CreateResponse id status) = (c.unnamed < 4) × IsSizeOf c.size id
+Allows c (Data id bytes) = (c.unnamed < 4) × IsSizeOf c.size id
+
+-- these bytes spell this PDU of this end
+pub record Spells (from : Role) (bytes : List ℕ) (pdu : Pdu) : Type 0 where
+  pub choice : Choice
+  pub allowed : Allows choice pdu
+  pub fits : Fits from pdu
+  pub bytes_are : bytes ≡ joined (layout choice pdu)
