@@ -4,3 +4,4 @@ pub mod Fields
 pub mod Lists
 pub mod Bytes
 pub mod Stretches
+pub mod Firsts

@@ -1,0 +1,4 @@
+pub mod Value
+pub mod Views
+pub mod Layout
+pub mod Reading
