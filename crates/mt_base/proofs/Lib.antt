@@ -5,3 +5,5 @@ pub mod Lists
 pub mod Bytes
 pub mod Stretches
 pub mod Firsts
+pub mod Steps
+pub mod Masks

@@ -116,9 +116,13 @@ pub record IsSyn (s : Syn) : Type 0 where
   pub correlation_is : IfSome s.correlation (λ bytes. (length bytes ≡ 32) × IsBytes bytes)
   pub extension_is : IfSome s.extension (IsExtended s.answer)
 
--- a vector of at most 2,048 good elements, and an acknowledgement of acknowledgements
+-- a vector has at most 2,048 elements, all good
+abbrev pub IsVector : Option (List ℕ) → Type 0
+IsVector vector = IfSome vector (λ elements. (length elements ≤ 2048) × All IsGood elements)
+
+-- a vector and an acknowledgement of acknowledgements
 pub record IsTold (vector : Option (List ℕ)) (aoa : Option ℕ) : Type 0 where
-  pub vector_is : IfSome vector (λ elements. (length elements ≤ 2048) × All IsGood elements)
+  pub vector_is : IsVector vector
   pub aoa_fits : IfSome aoa (λ number. number < 2 ^ 32)
 
 abbrev pub IsBody : Body → Type 0

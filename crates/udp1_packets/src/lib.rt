@@ -11,7 +11,9 @@
 mod flags;
 mod packet;
 mod read;
+mod write;
 
 pub use carrier::Refusal1;
 pub use packet::{Body1, Extension, Packet1, Syn1};
 pub use read::read1;
+pub use write::write1;
