@@ -1,3 +1,6 @@
 pub mod States
 pub mod ZeroLemmas
 pub mod Words
+pub mod Pieces
+pub mod OpeningLemmas
+pub mod SynLemmas

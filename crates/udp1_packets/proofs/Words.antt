@@ -5,8 +5,8 @@ use Rattle.std.proofs.lemmas.Bool.{cases_Bool, eq-eqb, ne_eqb, eqb-true, not-fal
 use Rattle.std.proofs.lemmas.Nat.{and_le_r, or_disjoint}
 use Rattle.mt_base.proofs.Masks.{and_sum, apart_from, shown, kept, whole_word, flag_or}
 use Rattle.udp1_packets.specs.Value.{Body, SynBody, DataBody, FecBody, BareBody}
-use Rattle.udp1_packets.specs.Layout.{flag_if, announced, mark_mask}
-use Rattle.udp1_packets.specs.Reading.{has, marks_in}
+use Rattle.udp1_packets.specs.Layout.{has, flag_if, announced, mark_mask}
+use Rattle.udp1_packets.specs.Reading.{marks_in}
 
 -- ---- what a word shows
 

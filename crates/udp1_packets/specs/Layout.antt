@@ -9,6 +9,10 @@ use Rattle.udp1_packets.specs.Value.{Extended, Syn, Body, SynBody, DataBody, Fec
 
 -- ---- the word of flags (section 2.2.2.1)
 
+-- one of these flags is set
+abbrev pub has : ℕ → ℕ → Bool
+has flags mask = not (bit_and flags mask == 0)
+
 -- a flag, where something is so
 abbrev pub flag_if : Bool → ℕ → ℕ
 flag_if set flag = if set then flag else 0
@@ -95,7 +99,7 @@ IsBlock there count block = (is_some block ≡ there) × IfSome block (λ bytes.
 
 -- the first flag says that the version is valid
 abbrev pub is_valid : ℕ → Bool
-is_valid flags = not (bit_and flags 1 == 0)
+is_valid flags = has flags 0x0001
 
 abbrev pub IsVersion : ℕ → Type 0
 IsVersion version = (version ≡ 0x0001) ⊎ (version ≡ 0x0002) ⊎ (version ≡ 0x0101)

@@ -8,7 +8,7 @@ use Rattle.mt_base.specs.Reading.{Left, past, block, big}
 use Rattle.carrier.specs.declared.first_layout.Refusal1.{Refusal1}
 use Rattle.carrier.specs.declared.first_layout.Refusal1.TheVariants as refusal
 use Rattle.udp1_packets.specs.Value.{Extended, Syn, Body, SynBody, DataBody, FecBody, BareBody, Packet}
-use Rattle.udp1_packets.specs.Layout.{is_valid, to_four}
+use Rattle.udp1_packets.specs.Layout.{has, is_valid, to_four}
 
 infixl 10 ◌>>=◌
 -- the next part, where the one before it was read
@@ -20,10 +20,6 @@ abbrev pub ◌>>=◌ : {A B : Type 0} → Result A Refusal1 → (A → Result B 
 abbrev pub cut : {A : Type 0} → Result (A × Left) Short → Result (A × Left) Refusal1
 cut (Ok x) = Ok x
 cut (Err e) = Err (refusal.Short e)
-
--- one of these flags is set
-abbrev pub has : ℕ → ℕ → Bool
-has flags mask = not (eqb (bit_and flags mask) 0)
 
 -- a part that a flag announces
 abbrev pub where_set : {A : Type 0} → Bool → (Left → Result (A × Left) Refusal1) → Left → Result (Option A × Left) Refusal1
@@ -66,15 +62,19 @@ zeros_to None s = Ok (length s.bytes)
 unfoldable pub zeros_at : Left → Result ℕ Refusal1
 zeros_at s = zeros_to (position_from (λ b. not (eqb b 0)) 0 s.bytes) s
 
-unfoldable pub syn_at : ℕ → Left → Result Syn Refusal1
-syn_at flags s = do
+-- an opening that answers one or doesn't, with a correlation identifier or an extension or without
+unfoldable pub syn_with : Bool → Bool → Bool → Left → Result Syn Refusal1
+syn_with answer correlated extended s = do
   initial ← cut (big 4 s)
   up ← mtu_at initial.1
   down ← mtu_at up.1
-  correlation ← block32_at (has flags 0x0800) down.1
-  extension ← extended_at (has flags 0x1000) (has flags 0x0004) correlation.1
+  correlation ← block32_at correlated down.1
+  extension ← extended_at extended answer correlation.1
   padding ← zeros_at extension.1
-  Ok (record { answer = has flags 0x0004; initial = initial.0; up = up.0; down = down.0; correlation = correlation.0; extension = extension.0; padding = padding })
+  Ok (record { answer = answer; initial = initial.0; up = up.0; down = down.0; correlation = correlation.0; extension = extension.0; padding = padding })
+
+abbrev pub syn_at : ℕ → Left → Result Syn Refusal1
+syn_at flags s = syn_with (has flags 0x0004) (has flags 0x0800) (has flags 0x1000) s
 
 unfoldable pub opening_at : ℕ → Left → Result Body Refusal1
 opening_at flags s =

@@ -1,7 +1,7 @@
 //! The flags of a packet's header (MS-RDPEUDP section 2.2.2.1).
 
 ghost use Rattle.std.specs.Prelude.{◌≡◌};
-ghost use Rattle.udp1_packets.specs.Reading.{has};
+ghost use Rattle.udp1_packets.specs.Layout.{has};
 
 pub const SYN: u16 = 0x0001;
 pub const ACK: u16 = 0x0004;

@@ -9,11 +9,13 @@
 #![tactic(auto)]
 
 mod flags;
+mod laws;
 mod packet;
 mod read;
 mod write;
 
 pub use carrier::Refusal1;
+pub use laws::written_is_spelled;
 pub use packet::{Body1, Extension, Packet1, Syn1};
 pub use read::read1;
 pub use write::write1;

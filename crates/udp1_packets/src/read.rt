@@ -4,8 +4,8 @@ ghost use Rattle.std.specs.Prelude.{◌≡◌, ◌+◌, ◌<◌, ◌≤◌, ◌^
 ghost use Rattle.std.specs.List.{position_from};
 ghost use Rattle.std.specs.Option.{option_copied, option_map};
 ghost use Rattle.mt_base.specs.CursorView.{left};
-ghost use Rattle.udp1_packets.specs.Layout.{is_valid, to_four};
-ghost use Rattle.udp1_packets.specs.Reading.{Reads, Answers, has, is_state, mtu_at, version_at, block32_at, extension_at, extended_at, zeros_at, syn_at, opening_at, elements_at, size_at, vector_at, vector_where, number_where, data_at, fec_at, rest_at, told_at, marks_in, body_at, packet_at};
+ghost use Rattle.udp1_packets.specs.Layout.{has, is_valid, to_four};
+ghost use Rattle.udp1_packets.specs.Reading.{Reads, Answers, is_state, mtu_at, version_at, block32_at, extension_at, extended_at, zeros_at, syn_at, opening_at, elements_at, size_at, vector_at, vector_where, number_where, data_at, fec_at, rest_at, told_at, marks_in, body_at, packet_at};
 ghost use Rattle.udp1_packets.specs.Views.{extended_of, syn_of, body_of, packet_of};
 
 use crate::flags;
@@ -100,7 +100,7 @@ fn zeros(from: &Cursor<'_>) -> Result<usize, Refusal1>
     }
 }
 
-#[tactic(auto, unfolding(crate::specs::Reading::syn_at))]
+#[tactic(auto, unfolding(crate::specs::Reading::syn_with))]
 fn syn<'a>(from: &mut Cursor<'a>, flags: u16) -> Result<Syn1<'a>, Refusal1>
     ensures { Answers syn_of result (syn_at flags (left from.old)) }
 {
