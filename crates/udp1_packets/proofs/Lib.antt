@@ -4,3 +4,5 @@ pub mod Words
 pub mod Pieces
 pub mod OpeningLemmas
 pub mod SynLemmas
+pub mod VectorLemmas
+pub mod DataLemmas

@@ -40,3 +40,7 @@ no_bad_state es good = none_at is_wrong es 0 (all_good es good)
 -- the first wrong element stands at k
 pub bad_state_at : (es : List ℕ) (k : ℕ) → k < length es → (IsGood (get_or es k 0) → ⊥) → All IsGood (take k es) → position_from is_wrong 0 es ≡ Some k
 bad_state_at es k within bad good = found_at is_wrong es k within (all_good (take k es) good) (bad_passes (get_or es k 0) bad)
+
+-- an element that passes is none
+pub bad_from : (e : ℕ) → is_wrong e ≡ true → IsGood e → ⊥
+bad_from e on good = Rattle.std.proofs.lemmas.Bool.both_ways (is_wrong e) (good_passes_not e good) on
