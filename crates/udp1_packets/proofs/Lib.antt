@@ -6,3 +6,5 @@ pub mod OpeningLemmas
 pub mod SynLemmas
 pub mod VectorLemmas
 pub mod DataLemmas
+pub mod ToldLemmas
+pub mod WholeLemmas

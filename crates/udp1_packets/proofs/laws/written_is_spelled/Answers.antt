@@ -1,4 +1,4 @@
-use Rattle.udp1_packets.proofs.DataLemmas
+use Rattle.udp1_packets.proofs.WholeLemmas
 use Rattle.udp1_packets.proofs.laws.written_is_spelled.Goals as goal
 
 pub returns : goal.returns
