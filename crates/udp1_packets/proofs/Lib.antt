@@ -8,3 +8,4 @@ pub mod VectorLemmas
 pub mod DataLemmas
 pub mod ToldLemmas
 pub mod WholeLemmas
+pub mod Theorems

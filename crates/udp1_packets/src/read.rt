@@ -4,8 +4,10 @@ ghost use Rattle.std.specs.Prelude.{◌≡◌, ◌+◌, ◌<◌, ◌≤◌, ◌^
 ghost use Rattle.std.specs.List.{position_from};
 ghost use Rattle.std.specs.Option.{option_copied, option_map};
 ghost use Rattle.mt_base.specs.CursorView.{left};
-ghost use Rattle.udp1_packets.specs.Layout.{has, is_valid, to_four};
+ghost use Rattle.udp1_packets.specs.Faults.{Refused};
+ghost use Rattle.udp1_packets.specs.Layout.{has, is_valid, to_four, Spells};
 ghost use Rattle.udp1_packets.specs.Reading.{Reads, Answers, is_state, mtu_at, version_at, block32_at, extension_at, extended_at, zeros_at, syn_at, opening_at, elements_at, size_at, vector_at, vector_where, number_where, data_at, fec_at, rest_at, told_at, marks_in, body_at, packet_at};
+ghost use Rattle.udp1_packets.specs.Value.{Packet};
 ghost use Rattle.udp1_packets.specs.Views.{extended_of, syn_of, body_of, packet_of};
 
 use crate::flags;
@@ -317,7 +319,12 @@ fn packet<'a>(from: &mut Cursor<'a>) -> Result<Packet1<'a>, Refusal1>
 /// The fields are taken in order, and the first that is cut short or breaks its rule is the
 /// refusal. A field that is cut short is [`Refusal1::Short`] with its place and its whole length.
 pub fn read1(bytes: &[u8]) -> Result<Packet1<'_>, Refusal1>
-    ensures exact { Answers packet_of result (packet_at (record { at = 0; bytes = bytes.now })) }
+    // What is read was spelled.
+    ensures found { IfOk result (λ p. Spells bytes.now (packet_of p)) }
+    // What is spelled is read.
+    ensures only { (p : Packet) → Spells bytes.now p → IsOkAnd result (λ q. packet_of q ≡ p) }
+    // A refusal is the first fault.
+    ensures refused { IfErr result (Refused bytes.now) }
 {
     packet(&mut Cursor::new(bytes))
 }

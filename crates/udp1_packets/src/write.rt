@@ -1,6 +1,6 @@
 //! Writing packets.
 
-ghost use Rattle.std.specs.Prelude.{◌≡◌, ◌+◌, ◌<◌, ◌≤◌, ◌^◌, ◌++◌, [], ◌∷◌, length, drop, replicate, IfOk, IfErr, IfSome, Err, ℕ, is_some};
+ghost use Rattle.std.specs.Prelude.{◌≡◌, ◌+◌, ◌<◌, ◌≤◌, ◌^◌, ◌++◌, [], ◌∷◌, length, drop, replicate, IfOk, IfErr, IfSome, IsOk, Err, ℕ, is_some};
 ghost use Rattle.std.specs.Option.{option_copied, option_map};
 ghost use Rattle.byteorder.specs.Endian.{big_bytes};
 ghost use Rattle.mt_base.specs.Writing.{Writes, put, puts};
@@ -207,6 +207,8 @@ pub fn write1(packet: &Packet1<'_>, out: &mut [u8]) -> Result<usize, NoRoom>
     requires { IsPacket (packet_of packet.now) }
     ensures ok { let text = spelled (packet_of packet.now) in
         IfOk result (λ n. (n ≡ length text) × (out.new ≡ text ++ drop n out.old)) }
+    ensures fits { length (spelled (packet_of packet.now)) ≤ length out.old → IsOk result }
+    // The first field that does not fit.
     ensures no_room { IfErr result (λ e. puts (written_fields (packet_of packet.now)) (record { before = []; after = out.old }) ≡ Err e) }
 {
     let mut place = Out::new(out);
