@@ -1,20 +1,18 @@
 -- Each PDU that an end writes is one that it may send.
-use Rattle.std.proofs.Common.{◌≡◌, ℕ, ◌+◌, ◌*◌, ◌<◌, ◌≤◌, ◌^◌, Bool, true, false, eqb, ltb, cond, ◌&&◌, List, [], ◌∷◌, ◌++◌, length, take, drop, fold, Option, None, Some, Result, Ok, Err, refl, sym, ap, ◌∙◌, subst, arith, length-append, lit<, lit≤}
-use Rattle.std.specs.Prelude.{All}
-use Rattle.std.specs.List.{flat_map, AllByRecursion}
+use Rattle.std.proofs.Common.{◌≡◌, ℕ, ◌+◌, ◌*◌, ◌<◌, ◌≤◌, ◌^◌, Bool, true, false, eqb, ltb, cond, ◌&&◌, List, [], ◌∷◌, ◌++◌, length, take, fold, Option, None, Some, Result, Ok, Err, refl, sym, subst, arith, length-append, lit<, lit≤}
+use Rattle.std.specs.List.{AllByRecursion}
 use Rattle.std.proofs.lemmas.List.Elements.{All-nil, All-cons, All-append, All-take, All-drop, recursion_from_All, All-from_recursion}
 use Rattle.byteorder.specs.Endian.{little_bytes}
 use Rattle.mt_base.specs.declared.kinds.Role.{Role}
 use Rattle.mt_base.specs.declared.kinds.Role.TheVariants.{Server, Client}
 use Rattle.mt_base.specs.Ends.{other}
 use Rattle.mt_base.specs.Trace.{Trace, Start, ◌▷◌}
-use Rattle.mt_base.specs.Writing.{joined}
 use Rattle.dvc_pdus.specs.declared.pdu.DvcRefusal.{DvcRefusal}
-use Rattle.dvc_pdus.specs.Value.{Pdu, Caps, CreateRequest, CreateResponse, Data, Fits, IsPdu, IsName, spelled, fields, smallest}
+use Rattle.dvc_pdus.specs.Value.{Pdu, Caps, CreateRequest, CreateResponse, Data, Fits, IsPdu, IsName, spelled, smallest}
 use Rattle.dvc_pdus.specs.Reading.{reading}
 use Rattle.dvc_pdus.proofs.Theorems.{was_spelled}
-use Rattle.mt_world.specs.Frames.{framed, frame_of, read_pdu}
-use Rattle.mt_world.specs.Acts.{Entry, Act, Made, Opened, Sent, MainIn, MainOut, Took, Began, Opens, Sends, Reads, Past, with_act, with_byte, with_frame, past, adds, reply, outgoing, written}
+use Rattle.mt_world.specs.Frames.{frame_of, read_pdu}
+use Rattle.mt_world.specs.Acts.{Entry, Act, Made, Opened, Sent, MainIn, MainOut, Took, Began, Opens, Sends, Past, with_act, with_byte, with_frame, past, adds, reply, outgoing}
 use Rattle.mt_world.specs.Ends.{EndTrace, IsBytes, channel_limit}
 
 -- The recursion of `All`, which goes through appends.

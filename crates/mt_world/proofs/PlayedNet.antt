@@ -1,7 +1,7 @@
 -- Play's lists are two ends and the stream between them.
-use Rattle.std.proofs.Common.{◌≡◌, ◌≢◌, ℕ, suc, ◌+◌, ◌-◌, ◌<◌, ◌≤◌, ◌^◌, Bool, true, false, eqb, ltb, leb, cond, not, ◌&&◌, List, [], ◌∷◌, ◌++◌, length, take, drop, fold, Option, None, Some, Result, Ok, Err, refl, sym, ap, ◌∙◌, subst, arith, length-append, append-nil, lit<, lt-ltb}
-use Rattle.std.specs.Prelude.{All, slice_get}
-use Rattle.std.specs.List.{flat_map, AllByRecursion}
+use Rattle.std.proofs.Common.{◌≡◌, ℕ, ◌+◌, ◌<◌, ◌≤◌, ◌^◌, Bool, true, false, ltb, cond, not, ◌&&◌, List, [], ◌∷◌, ◌++◌, length, take, drop, Option, None, Some, Result, Ok, Err, refl, sym, ap, ◌∙◌, subst, arith, length-append, append-nil, lt-ltb}
+use Rattle.std.specs.Prelude.{slice_get}
+use Rattle.std.specs.List.{AllByRecursion}
 use Rattle.std.proofs.lemmas.List.{take_all, drop-drop, length_push}
 use Rattle.std.proofs.lemmas.List.Elements.{All-from_recursion, All-drop}
 use Rattle.std.proofs.lemmas.Bool.{ltb-false, leb-false, leb-true}
@@ -14,19 +14,19 @@ use Rattle.mt_script.specs.declared.event.Event.{Event}
 use Rattle.mt_script.specs.declared.event.Event.TheVariants as event
 use Rattle.mt_script.specs.declared.event.Line.{Line}
 use Rattle.mt_script.specs.Lines.{lines_of}
-use Rattle.mt_script.specs.Meaning.{Means, Does, Do, numbered, ReadsAs}
+use Rattle.mt_script.specs.Meaning.{Do, numbered, ReadsAs}
 use Rattle.mt_script.specs.Spelling.{IsEvent}
-use Rattle.dvc_pdus.specs.Value.{Data, IsPdu, IsName, spelled, smallest}
+use Rattle.dvc_pdus.specs.Value.{Data, spelled, smallest}
 use Rattle.mt_world.specs.declared.channel.ChannelState.{ChannelState}
 use Rattle.mt_world.specs.declared.channel.ChannelState.TheVariants as state
 use Rattle.mt_world.specs.declared.refusal.StepRefusal.{StepRefusal}
 use Rattle.mt_world.specs.declared.refusal.StepRefusal.TheVariants as step
 use Rattle.mt_world.specs.declared.refusal.SendRefusal.{SendRefusal}
 use Rattle.mt_world.specs.declared.refusal.OpenRefusal.{OpenRefusal}
-use Rattle.mt_world.specs.Acts.{Entry, Act, Made, Opened, Sent, MainIn, MainOut, Took, past, names, channel, written, unsent, given, taken, took, waiting, delivered}
+use Rattle.mt_world.specs.Acts.{Entry, Made, Opened, Sent, MainIn, MainOut, Took, past, names, channel, written, unsent, given, taken, took, waiting, delivered}
 use Rattle.mt_world.specs.Ends.{EndTrace, IsBytes, channel_limit}
 use Rattle.mt_world.specs.Net.{Net, at, acts_of}
-use Rattle.mt_world.specs.Play.{Ending, RefusedAt, ◌or_else◌, when, name_fault, bad_name, open_refusal_of, state_refusal, send_refusal_of, message_limit, is_made, refused_open, refused_send, unless, calls, handed, handed_out, all_taken, then_taken, played, start, play}
+use Rattle.mt_world.specs.Play.{Ending, RefusedAt, ◌or_else◌, when, name_fault, bad_name, open_refusal_of, state_refusal, send_refusal_of, message_limit, is_made, refused_open, refused_send, unless, calls, handed_out, all_taken, then_taken, played, start, play}
 use Rattle.mt_world.proofs.Names.{no_cause, when_not, name_from_no_fault}
 use Rattle.mt_world.proofs.ReadBytes.{names-reads}
 use Rattle.mt_world.proofs.Outgoing.{end_sound}

@@ -1,20 +1,19 @@
 -- Two ends and the stream between them are safe.
-use Rattle.std.proofs.Common.{◌≡◌, ℕ, List, [], ◌∷◌, ◌++◌, length, take, drop, fold, Option, None, Some, refl, sym, ap, ◌∙◌, subst}
+use Rattle.std.proofs.Common.{◌≡◌, ℕ, List, [], ◌∷◌, ◌++◌, take, fold, Option, None, Some, refl, sym, ap, ◌∙◌}
 use Rattle.std.specs.List.{flat_map}
 use Rattle.std.proofs.lemmas.List.Sums.{fold-append}
 use Rattle.mt_base.specs.declared.kinds.Role.{Role}
-use Rattle.mt_base.specs.declared.kinds.Role.TheVariants.{Server, Client}
 use Rattle.mt_base.specs.Ends.{other}
 use Rattle.mt_base.specs.Trace.{Trace, Start, ◌▷◌}
-use Rattle.dvc_pdus.specs.Value.{Pdu, IsPdu, spelled}
+use Rattle.dvc_pdus.specs.Value.{Pdu}
 use Rattle.dvc_pdus.proofs.Theorems.{written_is_read}
 use Rattle.mt_world.specs.Frames.{framed, frame_of}
-use Rattle.mt_world.specs.Acts.{Entry, Act, Made, Opened, Sent, MainIn, MainOut, Took, Began, Opens, Sends, Reads, Past, past, with_byte, with_frame, written, outgoing, adds, given, taken, sent, delivered, message_in, reads, unsent}
+use Rattle.mt_world.specs.Acts.{Entry, Act, Made, Opened, Sent, MainIn, MainOut, Took, Began, Opens, Sends, Reads, Past, past, with_byte, with_frame, written, outgoing, adds, given, taken, sent, delivered, message_in, reads}
 use Rattle.mt_world.specs.Ends.{EndTrace}
-use Rattle.mt_world.specs.Net.{IsPrefixOf, Net, Safe, at, acts_of}
+use Rattle.mt_world.specs.Net.{IsPrefixOf}
 use Rattle.mt_world.proofs.Steps.{written-act}
-use Rattle.mt_world.proofs.Fronts.{front-same, front-append, front-trans, front-flat_map, front-next, front-at}
-use Rattle.mt_world.proofs.Hearing.{Heard, hear, heard_of, heard-past, hears-grow, hear-written}
+use Rattle.mt_world.proofs.Fronts.{front-same, front-trans, front-flat_map, front-next, front-at}
+use Rattle.mt_world.proofs.Hearing.{Heard, hear, heard-past, hears-grow, hear-written}
 use Rattle.mt_world.proofs.Messages.{messages_in, delivered-reads, sent-outgoing}
 use Rattle.mt_world.proofs.Outgoing.{end_sound}
 
