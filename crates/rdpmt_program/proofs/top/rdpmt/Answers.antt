@@ -1,4 +1,4 @@
-use Rattle.std.proofs.Common.{◌≡◌, ◌⊎◌, inl, inr, ℕ, refl}
+use Rattle.std.proofs.Common.{◌≡◌, ◌⊎◌, inl, inr, refl}
 use Rattle.rdpmt_program.proofs.Rows.{ended_of, answered, not_printed, played_to_end, either, of_usage, of_limit, of_complete}
 use Rattle.rdpmt_program.proofs.top.rdpmt.Goals as goal
 
