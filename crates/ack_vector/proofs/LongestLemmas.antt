@@ -15,7 +15,8 @@ longest_is b fs = record {
 }
 
 -- how many flags may be left makes no difference
-within_enough : (j k : ℕ) (fs : List Bool) → length fs ≤ j → length fs ≤ k → elements_within j fs ≡ elements_within k fs
+within_enough : (j k : ℕ) (fs : List Bool) → length fs ≤ j → length fs ≤ k
+    → elements_within j fs ≡ elements_within k fs
 within_enough zero zero fs h i = refl
 within_enough zero (suc k) [] h i = refl
 within_enough zero (suc k) (f ∷ fs) h i = absurd (omega arith)
@@ -29,14 +30,17 @@ within_enough (suc j) (suc k) (f ∷ fs) h i =
     ap (λ es. element f n ∷ es) (within_enough j k (drop n (f ∷ fs)) (omega arith) (omega arith))
 
 -- the first element of what is written, and the others
-pub elements_of-cons : (f : Bool) (fs : List Bool) → elements_of (f ∷ fs) ≡ element f (longest f (f ∷ fs)) ∷ elements_of (drop (longest f (f ∷ fs)) (f ∷ fs))
+pub elements_of-cons : (f : Bool) (fs : List Bool)
+    → elements_of (f ∷ fs) ≡ element f (longest f (f ∷ fs))
+    ∷ elements_of (drop (longest f (f ∷ fs)) (f ∷ fs))
 unfolding elements_of
 elements_of-cons f fs =
     let n = longest f (f ∷ fs) in
     let some = stretch_some 63 f fs (lit< tt) in
     let rest = drop n (f ∷ fs) in
     let long = length-drop n (f ∷ fs) in
-    ap (λ es. element f n ∷ es) (within_enough (length fs) (length rest) rest (omega arith) (omega arith))
+    ap (λ es. element f n ∷ es) (within_enough (length fs) (length rest) rest (omega arith)
+    (omega arith))
 
 pub elements_of-nil : elements_of [] ≡ []
 unfolding elements_of
@@ -102,7 +106,8 @@ element_flags false n h =
 holds_good : (es : List ℕ) (fs : List Bool) → HoldLongest es fs → All IsGood es
 holds_good [] fs h = λ k d below. absurd (omega arith)
 holds_good (e ∷ es) fs h =
-    All-cons IsGood e es (subst IsGood (sym h.2) (element_good h.0 h.1 h.4.short)) (holds_good es (drop h.1 fs) h.5)
+    All-cons IsGood e es (subst IsGood (sym h.2) (element_good h.0 h.1 h.4.short))
+    (holds_good es (drop h.1 fs) h.5)
 
 holds_flags : (es : List ℕ) (fs : List Bool) → HoldLongest es fs → fs ≡ flags_of es
 holds_flags [] fs h = h

@@ -1,4 +1,4 @@
--- The elements of an acknowledgement vector (MS-RDPEUDP section 2.2.3.2): bytes whose upper two
+-- The elements of an acknowledgement vector (MS-RDPEUDP section 2.2.2.7): bytes whose upper two
 -- bits are a state and whose lower six bits count datagrams.
 use Rattle.std.specs.Prelude.{◌≡◌, ℕ, ◌/◌, ◌%◌, ◌==◌, ◌⊎◌, Bool, List, replicate, All, flat_map}
 use Rattle.ack_vector.specs.declared.reader.Run.{Run}

@@ -1,5 +1,5 @@
--- The elements that are written for flags: each holds the longest stretch of equal flags that comes
--- next, at most 63.
+-- The elements that are written for flags: each holds the longest stretch of equal flags that
+-- comes next, at most 63.
 use Rattle.std.specs.Prelude.{◌≡◌, ℕ, zero, suc, ◌+◌, ◌<◌, ◌≤◌, Bool, not, List, [], ◌∷◌, length, take, drop, replicate, if◌then◌else◌}
 use Rattle.std.specs.List.{prefix_len}
 

@@ -40,7 +40,8 @@ impl<'a> Iterator for Runs<'a> {
 
 /// The runs of a vector's elements, in order.
 ///
-/// An element whose state is 1 or 2 is refused: the answer is the place of the first.
+/// The elements `02 c3` are a run of two datagrams that were received, and one of three that were
+/// not. An element whose state is 1 or 2 is refused: the answer is the place of the first.
 pub fn read_runs(elements: &[u8]) -> Result<Runs<'_>, usize>
     ensures accepted { All IsGood elements.now → IsOk result }
     ensures good { IfOk result (λ _. All IsGood elements.now) }

@@ -110,4 +110,5 @@ fn laws_hold() {
     longest_stretches();
     written_spells();
     flags_of_runs();
+    numbers_told();
 }

@@ -7,15 +7,15 @@ use mt_base::{NoRoom, Out};
 
 /// Writes elements for the flags, from the first on, and gives how many.
 ///
-/// Each element holds the longest stretch of equal flags that comes next, at most 63. Where the
-/// next element finds no place it is `NoRoom`, with those before it written. The bytes behind
-/// what is written stay as they were.
+/// Each element holds the longest stretch of equal flags that comes next, at most 63: 64
+/// datagrams that were received are `3f 01`. Where the next element finds no place it is
+/// `NoRoom`, with those before it written. The bytes behind what is written stay as they were.
 pub fn write_runs(flags: &[bool], out: &mut [u8]) -> Result<usize, NoRoom>
     ensures ok { let es = elements_of flags.now in
         IfOk result (λ n. (n ≡ length es) × (out.new ≡ es ++ drop n out.old)) }
     ensures fits { length (elements_of flags.now) ≤ length out.old → IsOk result }
-    ensures no_room { let es = elements_of flags.now in
-        IfErr result (λ e. (length out.old < length es) × (e ≡ record { at = length out.old; need = 1 })) }
+    ensures no_room { IfErr result (λ e. (length out.old < length (elements_of flags.now))
+        × (e ≡ record { at = length out.old; need = 1 })) }
     ensures filled { OnErr result (out.new ≡ take (length out.old) (elements_of flags.now)) }
 {
     let mut place = Out::new(out);

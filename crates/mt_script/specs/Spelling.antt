@@ -1,7 +1,8 @@
 -- How the line of an event is spelled.
-use Rattle.std.specs.Prelude.{◌≢◌, ℕ, ◌<◌, ◌^◌, List, [], ◌∷◌, length, codes, All}
+use Rattle.std.specs.Prelude.{ℕ, ◌<◌, ◌^◌, ◌≡◌, ◌≢◌, List, [], ◌∷◌, length, codes, All, Option, Some, None}
 use Rattle.std.specs.List.{join_with_byte}
 use Rattle.std.specs.Fmt.{decimal}
+use Rattle.mt_script.specs.Lines.{Lacks}
 use Rattle.hex.specs.Hex.{encode_lower}
 use Rattle.mt_base.specs.declared.kinds.Role.{Role}
 use Rattle.mt_base.specs.declared.kinds.Role.TheVariants.{Server, Client}
@@ -32,15 +33,19 @@ spelled event = join_with_byte 32 (words_of event)
 abbrev pub IsBytes : List ℕ → Type 0
 IsBytes bytes = All (λ byte. byte < 256) bytes
 
--- a name: not empty, with no blank and no end of a line
-pub record IsName (name : List ℕ) : Type 0 where
-  pub bytes : IsBytes name
-  pub not_empty : 0 < length name
-  pub no_blank : All (λ byte. byte ≢ 32) name
-  pub no_end : All (λ byte. byte ≢ 10) name
+-- a word: bytes, at least one, and no blank
+pub record IsWord (word : List ℕ) : Type 0 where
+  pub bytes : IsBytes word
+  pub not_empty : 0 < length word
+  pub no_blank : Lacks 32 word
 
 -- what the line of an event can hold
 abbrev pub IsEvent : Event → Type 0
-IsEvent (Open name) = IsName name
+IsEvent (Open name) = IsWord name × Lacks 10 name
 IsEvent (Send side id message) = (id < 2 ^ 32) × IsBytes message
 IsEvent (Main side) = Unit {0}
+
+-- a word spells these bytes, or none
+abbrev pub SpellsBytes : List ℕ → Option (List ℕ) → Type 0
+SpellsBytes word (Some bytes) = IsBytes bytes × (word ≡ hex_text bytes)
+SpellsBytes word None = (bytes : List ℕ) → IsBytes bytes → word ≢ hex_text bytes

@@ -29,6 +29,13 @@ impl Text {
         }
     }
 
+    /// A text of these bytes, which are taken and not copied.
+    pub fn from_vec(kept: Vec<u8>) -> Text
+        ensures { result ≡ kept.items }
+    {
+        Text { kept }
+    }
+
     /// The bytes.
     pub fn bytes(&self) -> &[u8]
         ensures { result.now ≡ self.now }

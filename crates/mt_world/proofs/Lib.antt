@@ -3,3 +3,11 @@ pub mod ReadBytes
 pub mod Hands
 pub mod Names
 pub mod Sides
+pub mod Fronts
+pub mod Hearing
+pub mod Messages
+pub mod Outgoing
+pub mod Safety
+pub mod SpelledBytes
+pub mod PlayedNet
+pub mod Cuts

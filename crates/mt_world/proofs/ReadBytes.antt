@@ -19,3 +19,17 @@ sent-with_byte id role p byte = sent-with_frame id p (p.part ++ byte ∷ []) (fr
 pub sent-reads : (id : ℕ) (role : Role) (p : Past) (bytes : List ℕ) → sent id (fold (with_byte role) p bytes).acts ≡ sent id p.acts
 sent-reads id role p [] = refl
 sent-reads id role p (byte ∷ bytes) = sent-reads id role (with_byte role p byte) bytes ∙ sent-with_byte id role p byte
+
+-- a byte that is read makes no channel
+names-with_frame : (p : Past) (part : List ℕ) (read : Option Pdu) → names (with_frame p part read).acts ≡ names p.acts
+names-with_frame p part None = refl
+names-with_frame p part (Some pdu) = refl
+
+names-with_byte : (role : Role) (p : Past) (byte : ℕ) → names (with_byte role p byte).acts ≡ names p.acts
+unfolding with_byte
+names-with_byte role p byte = names-with_frame p (p.part ++ byte ∷ []) (frame_of (other role) (p.part ++ byte ∷ []))
+
+-- bytes that are read make no channel
+pub names-reads : (role : Role) (p : Past) (bytes : List ℕ) → names (fold (with_byte role) p bytes).acts ≡ names p.acts
+names-reads role p [] = refl
+names-reads role p (byte ∷ bytes) = names-reads role (with_byte role p byte) bytes ∙ names-with_byte role p byte

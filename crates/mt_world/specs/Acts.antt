@@ -1,5 +1,5 @@
 -- What happens at one end of a session: the calls made of it, and the acts that these are.
-use Rattle.std.specs.Prelude.{ℕ, ◌+◌, ◌==◌, ◌^◌, Bool, true, false, List, [], ◌∷◌, ◌++◌, length, take, drop, fold, Option, None, Some, nat_lt, if◌then◌else◌}
+use Rattle.std.specs.Prelude.{ℕ, ◌==◌, ◌^◌, Bool, true, false, List, [], ◌∷◌, ◌++◌, length, take, drop, fold, Option, None, Some, nat_lt, if◌then◌else◌}
 use Rattle.std.specs.List.{flat_map}
 use Rattle.mt_base.specs.declared.kinds.Role.{Role}
 use Rattle.mt_base.specs.declared.kinds.Role.TheVariants.{Server, Client}
@@ -85,6 +85,12 @@ outgoing role (t ▷ act) = outgoing role t ++ adds act role
 -- the bytes that an end writes on the main stream
 unfoldable pub written : Role → Trace Act → List ℕ
 written role acts = flat_map framed (outgoing role acts)
+
+-- all PDUs that an end has read in full, in order
+abbrev pub reads : Trace Act → List Pdu
+reads Start = []
+reads (t ▷ Reads pdu) = reads t ++ pdu ∷ []
+reads (t ▷ act) = reads t
 
 -- the messages of a channel that were sent, in order
 abbrev pub sent : ℕ → Trace Act → List (List ℕ)

@@ -7,3 +7,4 @@ pub mod EndView
 pub mod SideView
 pub mod WorldView
 pub mod Report
+pub mod Stream

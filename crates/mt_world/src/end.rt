@@ -165,6 +165,20 @@ impl End {
         mem::replace(&mut self.inbox, Vec::new(alloc))
     }
 
+    /// The names of the channels that were made, in order of their ids.
+    pub(crate) fn names(&self) -> &[Text]
+        ensures { result.now ≡ self.now.names.items }
+    {
+        &self.names
+    }
+
+    /// The whole messages of the first channel that were not taken yet.
+    pub(crate) fn waiting(&self) -> &[Text]
+        ensures { result.now ≡ self.now.inbox.items }
+    {
+        &self.inbox
+    }
+
     /// Takes bytes of the main stream, and does what each PDU that ends in them asks for.
     pub(crate) fn main_in(&mut self, alloc: Global, bytes: &[u8]) -> Result<(), NoMemory>
         ensures { (role : Role) (p : Past) (left : List ℕ) (handed : List (List ℕ)) → StandsFor self.old role p left handed →

@@ -9,10 +9,16 @@
 mod channel;
 mod end;
 mod frame;
+mod laws;
 mod refusal;
+mod report;
 mod side;
 mod world;
 
+pub use laws::{net_is_safe, plays_safely, stream_is_read};
 pub use mt_script::{Event, ScriptRefusal, Text};
 pub use refusal::{OpenRefusal, Refused, SendRefusal, StepRefusal};
 pub use world::World;
+
+#[cfg(test)]
+mod tests;

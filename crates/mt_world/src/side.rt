@@ -45,6 +45,27 @@ impl Side {
         &self.end
     }
 
+    /// The messages that the end sent on the first channel.
+    pub(crate) fn sent(&self) -> &[Text]
+        ensures { result.now ≡ self.now.sent.items }
+    {
+        &self.sent
+    }
+
+    /// The messages of the first channel that were handed out.
+    pub(crate) fn received(&self) -> &[Text]
+        ensures { result.now ≡ self.now.received.items }
+    {
+        &self.received
+    }
+
+    /// How many bytes of the main stream the end took.
+    pub(crate) fn arrived(&self) -> usize
+        ensures { result ≡ length self.now.arrived.items }
+    {
+        self.arrived.len()
+    }
+
     /// The end creates a channel of this name, or says why it doesn't.
     pub(crate) fn open(&mut self, alloc: Global, name: &[u8]) -> Result<(), StepRefusal>
         ensures { (role : Role) (t : Trace Entry) → StandsAt self.old role t →

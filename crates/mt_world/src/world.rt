@@ -1,6 +1,7 @@
 //! A world: two sides and the main stream between them.
 
 use crate::refusal::StepRefusal;
+use crate::report::Report;
 use crate::side::Side;
 use mt_base::{NoMemory, Role};
 use mt_script::{Event, Text};
@@ -113,10 +114,21 @@ impl World {
         self.client.hand_out(self.alloc)
     }
 
-    /// The report on all that was played.
+    /// The report on all that was played, a text of lines.
+    ///
+    /// For each channel, the server's line first: `channel ID NAME SIDE sent N DIGEST delivered M
+    /// DIGEST`, with the count and the SHA-256 of the messages, joined, that the side sent and that
+    /// came to the other. Last `main server X client Y`, how many main stream bytes of each side
+    /// reached the other. Memory alone can be wanting.
     pub fn report(&self) -> Result<Text, NoMemory>
         ensures { IfOk result (λ text. (w : Trace (Role × Entry)) → Stands self.now w → text ≡ report w) }
     {
-        Err(NoMemory)
+        let mut report = Report::new(self.alloc);
+        if let Some(name) = self.server.end().names().first() {
+            report.channel(1, name.bytes(), Role::Server, &self.server, &self.client)?;
+            report.channel(1, name.bytes(), Role::Client, &self.client, &self.server)?;
+        }
+        report.main(self.client.arrived(), self.server.arrived())?;
+        Ok(report.into_text())
     }
 }

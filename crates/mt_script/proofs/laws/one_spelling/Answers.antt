@@ -1,0 +1,8 @@
+use Rattle.mt_script.proofs.Spellings.{spelled-injective, spelled_line}
+use Rattle.mt_script.proofs.laws.one_spelling.Goals as goal
+
+pub returns-clause-one : goal.returns-clause-one
+returns-clause-one c = spelled-injective
+
+pub returns-clause-line : goal.returns-clause-line
+returns-clause-line c = spelled_line
