@@ -69,7 +69,7 @@ abbrev pub aoa_fields : Option ℕ → List (List ℕ)
 aoa_fields None = []
 aoa_fields (Some number) = big_bytes 4 number ∷ []
 
--- sections 2.2.2.5 and 2.2.2.8 for an opening packet, 2.2.2.3 for data, 2.2.2.2 for FEC
+-- sections 2.2.2.5 and 2.2.2.8 for an opening packet, 2.2.2.4 for data, 2.2.2.2 for FEC
 abbrev pub body_fields : Body → Choice → List (List ℕ)
 body_fields (SynBody s) c =
     big_bytes 4 s.initial ∷ big_bytes 2 s.up ∷ big_bytes 2 s.down ∷ (block_fields s.correlation ++ (extension_fields s.extension ++ (replicate s.padding 0 ∷ [])))
