@@ -1,13 +1,13 @@
 -- What the reading of each body gives: at the bytes that spell it, and at each fault.
-use Rattle.std.proofs.Common.{◌≡◌, ◌≢◌, ◌⊎◌, inl, inr, ℕ, zero, suc, ◌+◌, ◌*◌, ◌/◌, ◌%◌, ◌^◌, ◌<◌, ◌≤◌, Bool, true, false, List, [], ◌∷◌, ◌++◌, length, map, take, drop, Option, Some, None, Result, Ok, Err, refl, sym, ap, ◌∙◌, subst, arith, append_assoc, append-nil}
+use Rattle.std.proofs.Common.{◌≡◌, eqb, ℕ, ◌+◌, ◌*◌, ◌^◌, ◌<◌, false, List, [], ◌∷◌, ◌++◌, length, map, Some, None, Ok, Err, refl, sym, ap, ◌∙◌, subst, arith}
 use Rattle.std.specs.List.{All}
 use Rattle.std.proofs.lemmas.Bool.{ne_eqb, cond-false}
 use Rattle.std.proofs.lemmas.List.Elements.{All-head, All-tail}
-use Rattle.byteorder.specs.Endian.{little_bytes, little_number}
+use Rattle.byteorder.specs.Endian.{little_bytes}
 use Rattle.byteorder.specs.Numbers.{length-bytes_low_first}
-use Rattle.mt_base.specs.Reading.{Left, big, little}
+use Rattle.mt_base.specs.Reading.{little}
 use Rattle.mt_base.specs.Writing.{joined}
-use Rattle.mt_base.proofs.Fields.{field_refuses, little_law, byte_law}
+use Rattle.mt_base.proofs.Fronts.{left_at, byte_reads, little_reads, little_cut, big_cut}
 use Rattle.dvc_pdus.specs.declared.pdu.DvcRefusal.{DvcRefusal}
 use Rattle.dvc_pdus.specs.declared.pdu.DvcRefusal.TheVariants as refusal
 use Rattle.dvc_pdus.specs.Value.{Caps, CreateRequest, CreateResponse, Data, IsName}
@@ -16,71 +16,58 @@ use Rattle.dvc_pdus.specs.Layout.{id_in, IsSizeOf}
 use Rattle.dvc_pdus.specs.Faults.{RefusedId, RefusedName, Cut}
 use Rattle.dvc_pdus.proofs.Parts.{id_law, id_answer, name_law, name_answer, ended_none}
 
--- a place and what is left from it on
-abbrev pub at : ℕ → List ℕ → Left
-at n bytes = record { at = n; bytes = bytes }
+id_reads : (size id : ℕ) → IsSizeOf size id → (n : ℕ) (rest : List ℕ) → id_at size (left_at n (id_in size id ++ rest)) ≡ Ok (id, left_at (n + length (id_in size id)) rest)
+id_reads size id h n rest = (id_law size h.0).again id (id_in size id) (h.1, refl) (left_at n (id_in size id ++ rest)) rest refl
 
-id_reads : (size id : ℕ) → IsSizeOf size id → (n : ℕ) (rest : List ℕ) → id_at size (at n (id_in size id ++ rest)) ≡ Ok (id, at (n + length (id_in size id)) rest)
-id_reads size id h n rest = (id_law size h.0).again id (id_in size id) (h.1, refl) (at n (id_in size id ++ rest)) rest refl
-
-number_reads : (width x : ℕ) → x < 256 ^ width → (n : ℕ) (rest : List ℕ) → cut (little width (at n (little_bytes width x ++ rest))) ≡ Ok (x, at (n + length (little_bytes width x)) rest)
-number_reads width x h n rest = (little_law refusal.Short width).again x (little_bytes width x) (h, refl) (at n (little_bytes width x ++ rest)) rest refl
-
-byte_reads : (x : ℕ) → x < 256 → (n : ℕ) (rest : List ℕ) → cut (big 1 (at n (x ∷ rest))) ≡ Ok (x, at (n + 1) rest)
-byte_reads x h n rest = (byte_law refusal.Short).again x (x ∷ []) (h, refl) (at n (x ∷ rest)) rest refl
-
-name_reads : (name : List ℕ) → IsName name → (n : ℕ) (rest : List ℕ) → name_at (at n ((name ++ (0 ∷ [])) ++ rest)) ≡ Ok (name, at (n + length (name ++ (0 ∷ []))) rest)
-name_reads name h n rest = name_law.again name (name ++ (0 ∷ [])) (h, refl) (at n ((name ++ (0 ∷ [])) ++ rest)) rest refl
+name_reads : (name : List ℕ) → IsName name → (n : ℕ) (rest : List ℕ) → name_at (left_at n ((name ++ (0 ∷ [])) ++ rest)) ≡ Ok (name, left_at (n + length (name ++ (0 ∷ []))) rest)
+name_reads name h n rest = name_law.again name (name ++ (0 ∷ [])) (h, refl) (left_at n ((name ++ (0 ∷ [])) ++ rest)) rest refl
 
 -- ---- data
 
-pub data_reads : (size id : ℕ) → IsSizeOf size id → (n : ℕ) (rest : List ℕ) → data_at size (at n (id_in size id ++ rest)) ≡ Ok (Data id rest)
+pub data_reads : (size id : ℕ) → IsSizeOf size id → (n : ℕ) (rest : List ℕ) → data_at size (left_at n (id_in size id ++ rest)) ≡ Ok (Data id rest)
 unfolding data_at
 data_reads size id h n rest = rw (id_reads size id h n rest) refl
 
-pub data_id : (size : ℕ) (rest : List ℕ) (r : DvcRefusal) → RefusedId size rest r → data_at size (at 1 rest) ≡ Err r
+pub data_id : (size : ℕ) (rest : List ℕ) (r : DvcRefusal) → RefusedId size rest r → data_at size (left_at 1 rest) ≡ Err r
 unfolding data_at
 data_id size rest r fault = rw (id_answer size rest r fault) refl
 
 -- ---- create request
 
 pub request_reads : (own size id : ℕ) (name : List ℕ) → IsSizeOf size id → IsName name → (n : ℕ) (rest : List ℕ)
-    → create_request_at own size (at n (id_in size id ++ ((name ++ (0 ∷ [])) ++ rest))) ≡ ended (CreateRequest id own name) (at (n + length (id_in size id) + length (name ++ (0 ∷ []))) rest)
+    → create_request_at own size (left_at n (id_in size id ++ ((name ++ (0 ∷ [])) ++ rest))) ≡ ended (CreateRequest id own name) (left_at (n + length (id_in size id) + length (name ++ (0 ∷ []))) rest)
 unfolding create_request_at
 request_reads own size id name h good n rest =
     rw (id_reads size id h n ((name ++ (0 ∷ [])) ++ rest), name_reads name good (n + length (id_in size id)) rest) refl
 
-pub request_id : (own size : ℕ) (rest : List ℕ) (r : DvcRefusal) → RefusedId size rest r → create_request_at own size (at 1 rest) ≡ Err r
+pub request_id : (own size : ℕ) (rest : List ℕ) (r : DvcRefusal) → RefusedId size rest r → create_request_at own size (left_at 1 rest) ≡ Err r
 unfolding create_request_at
 request_id own size rest r fault = rw (id_answer size rest r fault) refl
 
-pub request_name : (own size id : ℕ) (rest : List ℕ) (r : DvcRefusal) → IsSizeOf size id → RefusedName (1 + 2 ^ size) rest r → create_request_at own size (at 1 (id_in size id ++ rest)) ≡ Err r
+pub request_name : (own size id : ℕ) (rest : List ℕ) (r : DvcRefusal) → IsSizeOf size id → RefusedName (1 + 2 ^ size) rest r → create_request_at own size (left_at 1 (id_in size id ++ rest)) ≡ Err r
 unfolding create_request_at
 request_name own size id rest r h fault =
     let place : 1 + 2 ^ size ≡ 1 + length (id_in size id) = ap (λ n. 1 + n) (sym (length-bytes_low_first 0 (2 ^ size) id)) in
-    let name : name_at (at (1 + length (id_in size id)) rest) ≡ Err r = name_answer (at (1 + length (id_in size id)) rest) r (subst (λ n. RefusedName n rest r) place fault) in
+    let name : name_at (left_at (1 + length (id_in size id)) rest) ≡ Err r = name_answer (left_at (1 + length (id_in size id)) rest) r (subst (λ n. RefusedName n rest r) place fault) in
     rw (id_reads size id h 1 rest, name) refl
 
 -- ---- create response
 
 pub response_reads : (size id status : ℕ) → IsSizeOf size id → status < 2 ^ 32 → (n : ℕ) (rest : List ℕ)
-    → create_response_at size (at n (id_in size id ++ (little_bytes 4 status ++ rest))) ≡ ended (CreateResponse id status) (at (n + length (id_in size id) + length (little_bytes 4 status)) rest)
+    → create_response_at size (left_at n (id_in size id ++ (little_bytes 4 status ++ rest))) ≡ ended (CreateResponse id status) (left_at (n + length (id_in size id) + length (little_bytes 4 status)) rest)
 unfolding create_response_at
 response_reads size id status h good n rest =
-    rw (id_reads size id h n (little_bytes 4 status ++ rest), number_reads 4 status good (n + length (id_in size id)) rest) refl
+    rw (id_reads size id h n (little_bytes 4 status ++ rest), little_reads refusal.Short 4 status good (n + length (id_in size id)) rest) refl
 
-pub response_id : (size : ℕ) (rest : List ℕ) (r : DvcRefusal) → RefusedId size rest r → create_response_at size (at 1 rest) ≡ Err r
+pub response_id : (size : ℕ) (rest : List ℕ) (r : DvcRefusal) → RefusedId size rest r → create_response_at size (left_at 1 rest) ≡ Err r
 unfolding create_response_at
 response_id size rest r fault = rw (id_answer size rest r fault) refl
 
-pub number_cut : (width n : ℕ) (rest : List ℕ) (r : DvcRefusal) → Cut n width rest r → cut (little width (at n rest)) ≡ Err r
-number_cut width n rest r fault = (field_refuses refusal.Short width (little_number width)).answer (at n rest) r fault
-
-pub response_status : (size id : ℕ) (rest : List ℕ) (r : DvcRefusal) → IsSizeOf size id → Cut (1 + 2 ^ size) 4 rest r → create_response_at size (at 1 (id_in size id ++ rest)) ≡ Err r
+pub response_status : (size id : ℕ) (rest : List ℕ) (r : DvcRefusal) → IsSizeOf size id → Cut (1 + 2 ^ size) 4 rest r → create_response_at size (left_at 1 (id_in size id ++ rest)) ≡ Err r
 unfolding create_response_at
 response_status size id rest r h fault =
     let place : 1 + 2 ^ size ≡ 1 + length (id_in size id) = ap (λ n. 1 + n) (sym (length-bytes_low_first 0 (2 ^ size) id)) in
-    let status : cut (little 4 (at (1 + length (id_in size id)) rest)) ≡ Err r = number_cut 4 (1 + length (id_in size id)) rest r (subst (λ n. Cut n 4 rest r) place fault) in
+    let status : cut (little 4 (left_at (1 + length (id_in size id)) rest)) ≡ Err r = little_cut refusal.Short 4 (1 + length (id_in size id)) rest r (subst (λ n. Cut n 4 rest r) place fault) in
     rw (id_reads size id h 1 rest, status) refl
 
 -- ---- capabilities
@@ -92,72 +79,72 @@ Charge c = c < 2 ^ 16
 cut_at : (m n : ℕ) (rest : List ℕ) (r : DvcRefusal) → m ≡ n → Cut m 2 rest r → Cut n 2 rest r
 cut_at m n rest r same fault = subst (λ n. Cut n 2 rest r) same fault
 
-not_empty : (xs : List ℕ) → 0 < length xs → Rattle.std.proofs.Common.eqb (length xs) 0 ≡ false
+not_empty : (xs : List ℕ) → 0 < length xs → eqb (length xs) 0 ≡ false
 not_empty xs h = ne_eqb (length xs) 0 (λ e. omega arith)
 
-charges_none : (n : ℕ) → charges_at (at n []) ≡ Ok (None, at n [])
+charges_none : (n : ℕ) → charges_at (left_at n []) ≡ Ok (None, left_at n [])
 unfolding charges_at
 charges_none n = refl
 
 charges_some : (a b c d : ℕ) → Charge a → Charge b → Charge c → Charge d → (n : ℕ) (rest : List ℕ)
-    → charges_at (at n (little_bytes 2 a ++ (little_bytes 2 b ++ (little_bytes 2 c ++ (little_bytes 2 d ++ rest))))) ≡ Ok (Some (a ∷ b ∷ c ∷ d ∷ []), at (n + 2 + 2 + 2 + 2) rest)
+    → charges_at (left_at n (little_bytes 2 a ++ (little_bytes 2 b ++ (little_bytes 2 c ++ (little_bytes 2 d ++ rest))))) ≡ Ok (Some (a ∷ b ∷ c ∷ d ∷ []), left_at (n + 2 + 2 + 2 + 2) rest)
 unfolding charges_at
 charges_some a b c d fa fb fc fd n rest =
     let bytes = little_bytes 2 a ++ (little_bytes 2 b ++ (little_bytes 2 c ++ (little_bytes 2 d ++ rest))) in
     rw (
-      number_reads 2 a fa n (little_bytes 2 b ++ (little_bytes 2 c ++ (little_bytes 2 d ++ rest))),
-      number_reads 2 b fb (n + 2) (little_bytes 2 c ++ (little_bytes 2 d ++ rest)),
-      number_reads 2 c fc (n + 2 + 2) (little_bytes 2 d ++ rest),
-      number_reads 2 d fd (n + 2 + 2 + 2) rest,
+      little_reads refusal.Short 2 a fa n (little_bytes 2 b ++ (little_bytes 2 c ++ (little_bytes 2 d ++ rest))),
+      little_reads refusal.Short 2 b fb (n + 2) (little_bytes 2 c ++ (little_bytes 2 d ++ rest)),
+      little_reads refusal.Short 2 c fc (n + 2 + 2) (little_bytes 2 d ++ rest),
+      little_reads refusal.Short 2 d fd (n + 2 + 2 + 2) rest,
     ) (cond-false _ _ _ (not_empty bytes (omega arith)))
 
 -- a charge that is cut short, behind none, one, two or three
 charges_cut : (before : List ℕ) (n : ℕ) (rest : List ℕ) (r : DvcRefusal) → All Charge before → length before < 4 → 0 < length before + length rest
-    → Cut (n + 2 * length before) 2 rest r → charges_at (at n (joined (map (little_bytes 2) before) ++ rest)) ≡ Err r
+    → Cut (n + 2 * length before) 2 rest r → charges_at (left_at n (joined (map (little_bytes 2) before) ++ rest)) ≡ Err r
 unfolding charges_at
 charges_cut [] n rest r good few some fault =
-    rw (number_cut 2 n rest r (cut_at (n + 2 * 0) n rest r (omega arith) fault)) (cond-false _ _ _ (not_empty rest (omega arith)))
+    rw (little_cut refusal.Short 2 n rest r (cut_at (n + 2 * 0) n rest r (omega arith) fault)) (cond-false _ _ _ (not_empty rest (omega arith)))
 charges_cut (a ∷ []) n rest r good few some fault =
-    rw (number_reads 2 a (All-head Charge a [] good) n rest, number_cut 2 (n + 2) rest r (cut_at (n + 2 * 1) (n + 2) rest r (omega arith) fault))
+    rw (little_reads refusal.Short 2 a (All-head Charge a [] good) n rest, little_cut refusal.Short 2 (n + 2) rest r (cut_at (n + 2 * 1) (n + 2) rest r (omega arith) fault))
     (cond-false _ _ _ (not_empty (little_bytes 2 a ++ rest) (omega arith)))
 charges_cut (a ∷ b ∷ []) n rest r good few some fault =
     let others = All-tail Charge a (b ∷ []) good in
     rw (
-      number_reads 2 a (All-head Charge a (b ∷ []) good) n (little_bytes 2 b ++ rest),
-      number_reads 2 b (All-head Charge b [] others) (n + 2) rest,
-      number_cut 2 (n + 2 + 2) rest r (cut_at (n + 2 * 2) (n + 2 + 2) rest r (omega arith) fault),
+      little_reads refusal.Short 2 a (All-head Charge a (b ∷ []) good) n (little_bytes 2 b ++ rest),
+      little_reads refusal.Short 2 b (All-head Charge b [] others) (n + 2) rest,
+      little_cut refusal.Short 2 (n + 2 + 2) rest r (cut_at (n + 2 * 2) (n + 2 + 2) rest r (omega arith) fault),
     ) (cond-false _ _ _ (not_empty (little_bytes 2 a ++ (little_bytes 2 b ++ rest)) (omega arith)))
 charges_cut (a ∷ b ∷ c ∷ []) n rest r good few some fault =
     let others = All-tail Charge a (b ∷ c ∷ []) good in
     let last = All-tail Charge b (c ∷ []) others in
     rw (
-      number_reads 2 a (All-head Charge a (b ∷ c ∷ []) good) n (little_bytes 2 b ++ (little_bytes 2 c ++ rest)),
-      number_reads 2 b (All-head Charge b (c ∷ []) others) (n + 2) (little_bytes 2 c ++ rest),
-      number_reads 2 c (All-head Charge c [] last) (n + 2 + 2) rest,
-      number_cut 2 (n + 2 + 2 + 2) rest r (cut_at (n + 2 * 3) (n + 2 + 2 + 2) rest r (omega arith) fault),
+      little_reads refusal.Short 2 a (All-head Charge a (b ∷ c ∷ []) good) n (little_bytes 2 b ++ (little_bytes 2 c ++ rest)),
+      little_reads refusal.Short 2 b (All-head Charge b (c ∷ []) others) (n + 2) (little_bytes 2 c ++ rest),
+      little_reads refusal.Short 2 c (All-head Charge c [] last) (n + 2 + 2) rest,
+      little_cut refusal.Short 2 (n + 2 + 2 + 2) rest r (cut_at (n + 2 * 3) (n + 2 + 2 + 2) rest r (omega arith) fault),
     ) (cond-false _ _ _ (not_empty (little_bytes 2 a ++ (little_bytes 2 b ++ (little_bytes 2 c ++ rest))) (omega arith)))
 charges_cut (a ∷ b ∷ c ∷ d ∷ more) n rest r good few some fault = absurd (omega arith)
 
 -- pad and version, and what follows
 versioned : (pad version : ℕ) → pad < 256 → version < 2 ^ 16 → (rest : List ℕ)
-    → capabilities_at (at 1 (pad ∷ (little_bytes 2 version ++ rest))) ≡ (charges_at (at 4 rest) >>= λ c. ended (Caps version c.0) c.1)
+    → capabilities_at (left_at 1 (pad ∷ (little_bytes 2 version ++ rest))) ≡ (charges_at (left_at 4 rest) >>= λ c. ended (Caps version c.0) c.1)
 unfolding capabilities_at
 versioned pad version p v rest =
-    rw (byte_reads pad p 1 (little_bytes 2 version ++ rest), number_reads 2 version v 2 rest) refl
+    rw (byte_reads refusal.Short pad p 1 (little_bytes 2 version ++ rest), little_reads refusal.Short 2 version v 2 rest) refl
 
-pub capabilities_bare : (pad version : ℕ) → pad < 256 → version < 2 ^ 16 → capabilities_at (at 1 (pad ∷ (little_bytes 2 version ++ []))) ≡ Ok (Caps version None)
+pub capabilities_bare : (pad version : ℕ) → pad < 256 → version < 2 ^ 16 → capabilities_at (left_at 1 (pad ∷ (little_bytes 2 version ++ []))) ≡ Ok (Caps version None)
 capabilities_bare pad version p v = versioned pad version p v [] ∙ ap (λ r. r >>= λ c. ended (Caps version c.0) c.1) (charges_none 4) ∙ ended_none (Caps version None) 4
 
 -- the place behind four charges
 charges_read : (charges : List ℕ) (n : ℕ) (rest : List ℕ) → length charges ≡ 4 → All Charge charges
-    → charges_at (at n (joined (map (little_bytes 2) charges) ++ rest)) ≡ Ok (Some charges, at (n + 8) rest)
+    → charges_at (left_at n (joined (map (little_bytes 2) charges) ++ rest)) ≡ Ok (Some charges, left_at (n + 8) rest)
 charges_read (a ∷ b ∷ c ∷ d ∷ []) n rest four good =
     let b_on = All-tail Charge a (b ∷ c ∷ d ∷ []) good in
     let c_on = All-tail Charge b (c ∷ d ∷ []) b_on in
     let d_on = All-tail Charge c (d ∷ []) c_on in
     let place : n + 2 + 2 + 2 + 2 ≡ n + 8 = omega arith in
     charges_some a b c d (All-head Charge a (b ∷ c ∷ d ∷ []) good) (All-head Charge b (c ∷ d ∷ []) b_on) (All-head Charge c (d ∷ []) c_on) (All-head Charge d [] d_on) n rest
-    ∙ ap (λ m. Ok (Some (a ∷ b ∷ c ∷ d ∷ []), at m rest)) place
+    ∙ ap (λ m. Ok (Some (a ∷ b ∷ c ∷ d ∷ []), left_at m rest)) place
 charges_read (a ∷ b ∷ c ∷ d ∷ e ∷ more) n rest four good = absurd (omega arith)
 charges_read [] n rest four good = absurd (omega arith)
 charges_read (a ∷ []) n rest four good = absurd (omega arith)
@@ -165,20 +152,20 @@ charges_read (a ∷ b ∷ []) n rest four good = absurd (omega arith)
 charges_read (a ∷ b ∷ c ∷ []) n rest four good = absurd (omega arith)
 
 pub capabilities_read : (pad version : ℕ) (charges : List ℕ) → pad < 256 → version < 2 ^ 16 → length charges ≡ 4 → All Charge charges → (rest : List ℕ)
-    → capabilities_at (at 1 (pad ∷ (little_bytes 2 version ++ (joined (map (little_bytes 2) charges) ++ rest)))) ≡ ended (Caps version (Some charges)) (at 12 rest)
+    → capabilities_at (left_at 1 (pad ∷ (little_bytes 2 version ++ (joined (map (little_bytes 2) charges) ++ rest)))) ≡ ended (Caps version (Some charges)) (left_at 12 rest)
 capabilities_read pad version charges p v four good rest =
     versioned pad version p v (joined (map (little_bytes 2) charges) ++ rest) ∙ ap (λ r. r >>= λ c. ended (Caps version c.0) c.1) (charges_read charges 4 rest four good)
 
-pub capabilities_pad : (rest : List ℕ) (r : DvcRefusal) → Cut 1 1 rest r → capabilities_at (at 1 rest) ≡ Err r
+pub capabilities_pad : (rest : List ℕ) (r : DvcRefusal) → Cut 1 1 rest r → capabilities_at (left_at 1 rest) ≡ Err r
 unfolding capabilities_at
-capabilities_pad rest r fault = rw ((field_refuses refusal.Short 1 (Rattle.byteorder.specs.Endian.big_number 1)).answer (at 1 rest) r fault) refl
+capabilities_pad rest r fault = rw (big_cut refusal.Short 1 1 rest r fault) refl
 
-pub capabilities_version : (pad : ℕ) (rest : List ℕ) (r : DvcRefusal) → pad < 256 → Cut 2 2 rest r → capabilities_at (at 1 (pad ∷ rest)) ≡ Err r
+pub capabilities_version : (pad : ℕ) (rest : List ℕ) (r : DvcRefusal) → pad < 256 → Cut 2 2 rest r → capabilities_at (left_at 1 (pad ∷ rest)) ≡ Err r
 unfolding capabilities_at
-capabilities_version pad rest r p fault = rw (byte_reads pad p 1 rest, number_cut 2 2 rest r fault) refl
+capabilities_version pad rest r p fault = rw (byte_reads refusal.Short pad p 1 rest, little_cut refusal.Short 2 2 rest r fault) refl
 
 pub capabilities_charge : (pad version : ℕ) (before rest : List ℕ) (r : DvcRefusal) → pad < 256 → version < 2 ^ 16 → All Charge before → length before < 4
     → 0 < length before + length rest → Cut (4 + 2 * length before) 2 rest r
-    → capabilities_at (at 1 (pad ∷ (little_bytes 2 version ++ (joined (map (little_bytes 2) before) ++ rest)))) ≡ Err r
+    → capabilities_at (left_at 1 (pad ∷ (little_bytes 2 version ++ (joined (map (little_bytes 2) before) ++ rest)))) ≡ Err r
 capabilities_charge pad version before rest r p v good few some fault =
     versioned pad version p v (joined (map (little_bytes 2) before) ++ rest) ∙ ap (λ q. q >>= λ c. ended (Caps version c.0) c.1) (charges_cut before 4 rest r good few some fault)

@@ -2,3 +2,4 @@ pub mod Parts
 pub mod Bodies
 pub mod Whole
 pub mod Theorems
+pub mod Spaces

@@ -6,18 +6,13 @@ use Rattle.std.proofs.lemmas.List.{length-append, length-take, take-append-drop,
 use Rattle.std.proofs.Math.Seq.{take-append-add}
 use Rattle.std.proofs.lemmas.List.Elements.{All-cons, All-nil, All-head, All-tail}
 use Rattle.mt_base.specs.Reading.{Left, past}
-use Rattle.mt_base.proofs.Numbers.{IsBytes}
-use Rattle.mt_base.proofs.Fields.{Field, Plainly, Refuses, CutShort, behind, field_refuses, little_law, as_err, not_both, ok_is, taken_by}
+use Rattle.mt_base.proofs.Fields.{Field, Plainly, Refuses, CutShort, behind, field_refuses, little_law, as_err, not_both, taken_by}
 use Rattle.dvc_pdus.specs.declared.pdu.DvcRefusal.{DvcRefusal}
 use Rattle.dvc_pdus.specs.declared.pdu.DvcRefusal.TheVariants as refusal
 use Rattle.dvc_pdus.specs.Value.{Pdu, IsNameByte, IsName}
 use Rattle.dvc_pdus.specs.Reading.{id_at, ended, is_name_byte, name_to, name_at}
 use Rattle.dvc_pdus.specs.Layout.{id_in}
 use Rattle.dvc_pdus.specs.Faults.{RefusedId, size_unknown, id_cut, RefusedName, wrong_byte, too_many, not_ended}
-
--- an answer is at most one refusal
-pub err_is : {X : Type 0} {r q : DvcRefusal} → (let refuse : DvcRefusal → Result X DvcRefusal = λ e. Err e in refuse r ≡ refuse q) → r ≡ q
-err_is e = cc
 
 -- ---- the id
 
@@ -38,25 +33,10 @@ unfolding id_at
 bad_size size s h =
     rw (ne_eqb size 0 (λ e. omega arith), ne_eqb size 1 (λ e. omega arith), ne_eqb size 2 (λ e. omega arith)) refl
 
--- where an id was read its size was one of the three
-pub id_size : (size : ℕ) (s : Left) (x : ℕ × Left) → id_at size s ≡ Ok x → size < 3
-id_size size s x is =
-    elim (cases_lt size 3) [
-      | inl h ↦ h
-      | inr h ↦ not_both x (refusal.BadCbId 0) is (bad_size size s h)
-    ]
-
 cut_refused : (size : ℕ) → size < 3 → Refuses (id_at size) (CutShort refusal.Short (2 ^ size))
 unfolding id_at
 cut_refused = three (λ size. Refuses (id_at size) (CutShort refusal.Short (2 ^ size)))
     (field_refuses refusal.Short 1 _) (field_refuses refusal.Short 2 _) (field_refuses refusal.Short 4 _)
-
-pub id_which : (size : ℕ) (bytes : List ℕ) (r : DvcRefusal) → size < 4 → IsBytes bytes → id_at size (record { at = 1; bytes = bytes }) ≡ Err r → RefusedId size bytes r
-id_which size bytes r small good is =
-    elim (cases_lt size 3) [
-      | inl h ↦ id_cut h ((cut_refused size h).which (record { at = 1; bytes = bytes }) r good is)
-      | inr h ↦ size_unknown (omega arith) (err_is (sym is ∙ bad_size size (record { at = 1; bytes = bytes }) h))
-    ]
 
 pub id_answer : (size : ℕ) (bytes : List ℕ) (r : DvcRefusal) → RefusedId size bytes r → id_at size (record { at = 1; bytes = bytes }) ≡ Err r
 id_answer size bytes r (size_unknown three is) = as_err (bad_size size (record { at = 1; bytes = bytes }) (omega arith)) is
@@ -71,22 +51,6 @@ ended_none pdu at = refl
 pub ended_more : (pdu : Pdu) (at b : ℕ) (rest : List ℕ) → ended pdu (record { at = at; bytes = b ∷ rest }) ≡ Err (refusal.Trailing at)
 unfolding ended
 ended_more pdu at b rest = rw (lt-ltb 0 (length (b ∷ rest)) (omega arith)) refl
-
--- where nothing was refused at the end, nothing is left
-pub ended_ok : (pdu p : Pdu) (at : ℕ) (bytes : List ℕ) → ended pdu (record { at = at; bytes = bytes }) ≡ Ok p → (p ≡ pdu) × (bytes ≡ [])
-ended_ok pdu p at [] is = (ok_is p pdu is (ended_none pdu at), refl)
-ended_ok pdu p at (b ∷ rest) is = not_both p (refusal.Trailing at) is (ended_more pdu at b rest)
-
--- what is left where something was
-pub record More (at : ℕ) (bytes : List ℕ) (r : DvcRefusal) : Type 0 where
-  pub first : ℕ
-  pub rest : List ℕ
-  pub bytes_are : bytes ≡ first ∷ rest
-  pub refusal_is : r ≡ refusal.Trailing at
-
-pub ended_err : (pdu : Pdu) (at : ℕ) (bytes : List ℕ) (r : DvcRefusal) → ended pdu (record { at = at; bytes = bytes }) ≡ Err r → More at bytes r
-ended_err pdu at [] r is = not_both pdu r (ended_none pdu at) is
-ended_err pdu at (b ∷ rest) r is = record { first = b; rest = rest; bytes_are = refl; refusal_is = err_is (sym is ∙ ended_more pdu at b rest) }
 
 -- ---- the name
 
@@ -111,10 +75,6 @@ off_byte b bad =
       | inl on ↦ absurd (bad (name_byte b on))
       | inr off ↦ off
     ]
-
--- the place of the first byte that is none of a name, counted from i
-end_from : ℕ → List ℕ → Option ℕ
-end_from i xs = position_from (λ b. not (is_name_byte b)) i xs
 
 -- the bytes of a name, and the one that is none
 record Stop (xs : List ℕ) (i k : ℕ) : Type 0 where
@@ -176,20 +136,25 @@ end_is good rest b goods short off =
     let front : take 256 (good ++ (b ∷ rest)) ≡ good ++ (b ∷ others) = ap (λ n. take n (good ++ (b ∷ rest))) split ∙ take-append-add good (b ∷ rest) (suc (255 - length good)) in
     ap (position_from (λ b. not (is_name_byte b)) 0) front ∙ stop_at good others b 0 goods off ∙ ap Some (omega arith)
 
+-- at a zero byte the name ends
+name_ends : (k : ℕ) (s : Left) → 0 < k → slice_index s.bytes k ≡ 0 → name_to (Some k) s ≡ Ok (take k s.bytes, past (k + 1) s)
+unfolding name_to
+name_ends k s some byte =
+    rw (and_from (ltb 0 k) (eqb (slice_index s.bytes k) 0) (lt-ltb 0 k some) (eq-eqb (slice_index s.bytes k) 0 byte)) refl
+
 -- a name is read up to its zero byte
 ends_at : (name text : List ℕ) → IsName name × (text ≡ name ++ (0 ∷ [])) → (s : Left) (rest : List ℕ) → s.bytes ≡ text ++ rest → name_at s ≡ Ok (name, behind s text rest)
-unfolding name_at name_to
+unfolding name_at
 ends_at name text good s rest is =
     let k = length name in
     let whole : s.bytes ≡ name ++ (0 ∷ rest) = is ∙ ap (λ t. t ++ rest) good.1 ∙ append_assoc name (0 ∷ []) rest in
     let at : position_from (λ b. not (is_name_byte b)) 0 (take 256 s.bytes) ≡ Some k =
     ap (λ t. position_from (λ b. not (is_name_byte b)) 0 (take 256 t)) whole ∙ end_is name rest 0 good.0.2 (omega (arith, good.0.1)) (λ h. omega (arith, h.0)) in
     let byte : slice_index s.bytes k ≡ 0 = ap (λ t. slice_index t k) whole ∙ get_or_at name 0 rest 0 k refl in
-    let test : (ltb 0 k && eqb (slice_index s.bytes k) 0) ≡ true = and_from (ltb 0 k) (eqb (slice_index s.bytes k) 0) (lt-ltb 0 k (omega (arith, good.0.0))) (eq-eqb (slice_index s.bytes k) 0 byte) in
     let long : length text ≡ k + 1 = omega (arith, ap length good.1, length-append name (0 ∷ [])) in
     let front : take k s.bytes ≡ name = ap (take k) whole ∙ take_at name (0 ∷ rest) k refl in
     let back : drop (k + 1) s.bytes ≡ rest = ap (drop (k + 1)) is ∙ drop_at text rest (k + 1) long in
-    ap (λ o. name_to o s) at ∙ ap (λ b. cond b (Ok (take k s.bytes, past (k + 1) s)) (Err (refusal.BadName (s.at + k)))) test ∙ same s (take k s.bytes) name (k + 1) (length text) (drop (k + 1) s.bytes) rest front (sym long) back
+    ap (λ o. name_to o s) at ∙ name_ends k s (omega (arith, good.0.0)) byte ∙ same s (take k s.bytes) name (k + 1) (length text) (drop (k + 1) s.bytes) rest front (sym long) back
   where
     same : (s : Left) (v x : List ℕ) (n m : ℕ) (left rest : List ℕ) → v ≡ x → n ≡ m → left ≡ rest
         → (let end : Result (List ℕ × Left) DvcRefusal = Ok (v, record { at = s.at + n; bytes = left }) in end ≡ Ok (x, record { at = s.at + m; bytes = rest }))
@@ -267,11 +232,3 @@ name_law = record {
   ];
   again = ends_at;
 }
-
--- which fault of a name is the answer
-pub name_which : (s : Left) (r : DvcRefusal) → name_at s ≡ Err r → RefusedName s.at s.bytes r
-name_which s r is =
-    elim (named_or s.at s.bytes) [
-      | named name rest fits whole ↦ not_both (name, behind s (name ++ (0 ∷ [])) rest) r (ends_at name (name ++ (0 ∷ [])) (fits, refl) s rest whole) is
-      | misnamed q fault ↦ subst (RefusedName s.at s.bytes) (err_is (sym (name_answer s q fault) ∙ is)) fault
-    ]

@@ -1,5 +1,5 @@
 -- What reading gives, in the words of the layouts and faults, and what follows of both.
-use Rattle.std.proofs.Common.{◌≡◌, ◌⊎◌, inl, inr, ℕ, zero, suc, ◌^◌, ◌<◌, ◌≤◌, List, [], ◌∷◌, ◌++◌, length, get_or, Some, None, Result, Ok, Err, refl, sym, ap, ◌∙◌, subst, arith}
+use Rattle.std.proofs.Common.{◌≡◌, inl, inr, ℕ, zero, suc, ◌^◌, ◌<◌, ◌≤◌, List, [], ◌∷◌, ◌++◌, length, get_or, Some, None, Result, Ok, Err, refl, sym, ap, ◌∙◌, subst, arith}
 use Rattle.std.specs.Result.{IfOk, IfErr, IsOkAnd}
 use Rattle.std.proofs.lemmas.Bool.{cases_lt, lt-ltb, le-ltb}
 use Rattle.std.proofs.lemmas.List.{length-append}
@@ -9,6 +9,8 @@ use Rattle.mt_base.specs.Reading.{Left}
 use Rattle.mt_base.specs.declared.kinds.Role.{Role}
 use Rattle.mt_base.specs.declared.kinds.Role.TheVariants.{Server, Client}
 use Rattle.mt_base.proofs.Numbers.{IsBytes}
+use Rattle.mt_base.proofs.Fronts.{left_at}
+use Rattle.mt_base.proofs.Meanings.{Meaning, was_spelled, was_fault}
 use Rattle.mt_base.proofs.Fields.{as_err, not_both, ok_is}
 use Rattle.dvc_pdus.specs.declared.pdu.DvcRefusal.{DvcRefusal}
 use Rattle.dvc_pdus.specs.declared.pdu.DvcRefusal.TheVariants as refusal
@@ -16,14 +18,12 @@ use Rattle.dvc_pdus.specs.Value.{Pdu, Caps, CreateRequest, CreateResponse, Data,
 use Rattle.dvc_pdus.specs.declared.pdu.DvcPdu.{DvcPdu}
 use Rattle.dvc_pdus.specs.Views.{pdu_of}
 use Rattle.dvc_pdus.specs.Reading.{pdu_at, reading, Answers}
-use Rattle.dvc_pdus.specs.Layout.{id_in, IsSizeOf, Spells}
-use Rattle.dvc_pdus.specs.Faults.{Refused, too_long, in_fields}
-use Rattle.dvc_pdus.proofs.Parts.{err_is}
-use Rattle.dvc_pdus.proofs.Bodies.{at}
+use Rattle.dvc_pdus.specs.Layout.{id_in, IsSizeOf, Spells, Encodes}
+use Rattle.dvc_pdus.specs.Faults.{RefusedFields, Refused, too_long, in_fields}
 use Rattle.dvc_pdus.proofs.Whole
 use Rattle.dvc_pdus.proofs.Whole.{Decided, decided, spelled_reads, fault_answer}
 
-within : (from : Role) (bytes : List ℕ) → length bytes ≤ 1600 → reading from bytes ≡ pdu_at from (at 0 bytes)
+within : (from : Role) (bytes : List ℕ) → length bytes ≤ 1600 → reading from bytes ≡ pdu_at from (left_at 0 bytes)
 unfolding reading
 within from bytes h = rw (le-ltb 1600 (length bytes) h) refl
 
@@ -31,53 +31,33 @@ beyond : (from : Role) (bytes : List ℕ) → 1600 < length bytes → reading fr
 unfolding reading
 beyond from bytes h = rw (lt-ltb 1600 (length bytes) h) refl
 
--- what is spelled is read
-pub is_read : (from : Role) (bytes : List ℕ) (pdu : Pdu) → Spells from bytes pdu → length bytes ≤ 1600 → reading from bytes ≡ Ok pdu
-is_read from bytes pdu s h = within from bytes h ∙ spelled_reads from bytes pdu s
+-- what bytes mean at any length
+pub fields_meaning : (from : Role) → Meaning (λ bytes. pdu_at from (left_at 0 bytes)) (λ pdu bytes. Spells from bytes pdu) (RefusedFields from)
+fields_meaning from = record {
+  reads = λ pdu bytes s. spelled_reads from bytes pdu s;
+  refuses = λ r bytes fault. fault_answer from bytes r fault;
+  decides = λ bytes good. elim (decided from bytes good) [
+    | Whole.spelled pdu s ↦ inl (pdu, s)
+    | Whole.refused r fault ↦ inr (r, fault)
+  ];
+}
 
--- each fault is the answer
-pub is_answer : (from : Role) (bytes : List ℕ) (r : DvcRefusal) → Refused from bytes r → reading from bytes ≡ Err r
-is_answer from bytes r (too_long h is) = as_err (beyond from bytes h) is
-is_answer from bytes r (in_fields h fault) = within from bytes h ∙ fault_answer from bytes r fault
-
--- bytes are spelled or have a fault
-pub spelled_or : (from : Role) (bytes : List ℕ) → IsBytes bytes → ((pdu : Pdu) × Spells from bytes pdu × (length bytes ≤ 1600)) ⊎ ((r : DvcRefusal) × Refused from bytes r)
-spelled_or from bytes good =
-    elim (cases_lt 1600 (length bytes)) [
-      | inl h ↦ inr (refusal.TooLong 1600, too_long h refl)
-      | inr h ↦ elim (decided from bytes good) [
-        | Whole.spelled pdu s ↦ inl (pdu, s, h)
-        | Whole.refused r fault ↦ inr (r, in_fields h fault)
-      ]
+-- what bytes mean, where more than 1,600 are refused
+pub meaning : (from : Role) → Meaning (reading from) (λ pdu bytes. Encodes from bytes pdu) (Refused from)
+meaning from = record {
+  reads = λ pdu bytes s. within from bytes s.1 ∙ spelled_reads from bytes pdu s.0;
+  refuses = λ r bytes fault. elim fault [
+    | too_long h is ↦ as_err (beyond from bytes h) is
+    | in_fields h fields ↦ within from bytes h ∙ fault_answer from bytes r fields
+  ];
+  decides = λ bytes good. elim (cases_lt 1600 (length bytes)) [
+    | inl h ↦ inr (refusal.TooLong 1600, too_long h refl)
+    | inr h ↦ elim ((fields_meaning from).decides bytes good) [
+      | inl s ↦ inl (s.0, (s.1, h))
+      | inr f ↦ inr (f.0, in_fields h f.1)
     ]
-
--- what is read was spelled
-pub was_spelled : (from : Role) (bytes : List ℕ) (pdu : Pdu) → IsBytes bytes → reading from bytes ≡ Ok pdu → Spells from bytes pdu × (length bytes ≤ 1600)
-was_spelled from bytes pdu good is =
-    elim (spelled_or from bytes good) [
-      | inl s ↦ (subst (Spells from bytes) (ok_is s.0 pdu (is_read from bytes s.0 s.1 s.2) is) s.1, s.2)
-      | inr f ↦ not_both pdu f.0 is (is_answer from bytes f.0 f.1)
-    ]
-
--- a refusal is the first fault
-pub was_fault : (from : Role) (bytes : List ℕ) (r : DvcRefusal) → IsBytes bytes → reading from bytes ≡ Err r → Refused from bytes r
-was_fault from bytes r good is =
-    elim (spelled_or from bytes good) [
-      | inl s ↦ not_both s.0 r (is_read from bytes s.0 s.1 s.2) is
-      | inr f ↦ subst (Refused from bytes) (err_is (sym (is_answer from bytes f.0 f.1) ∙ is)) f.1
-    ]
-
--- bytes spell at most one PDU
-pub one_value : (from : Role) (bytes : List ℕ) (p q : Pdu) → Spells from bytes p → Spells from bytes q → p ≡ q
-one_value from bytes p q s t = ok_is p q (spelled_reads from bytes p s) (spelled_reads from bytes q t)
-
--- bytes have at most one first fault
-pub one_fault : (from : Role) (bytes : List ℕ) (r q : DvcRefusal) → Refused from bytes r → Refused from bytes q → r ≡ q
-one_fault from bytes r q f g = err_is (sym (is_answer from bytes r f) ∙ is_answer from bytes q g)
-
--- bytes that spell a PDU have no fault but their number
-pub not_both_ways : (from : Role) (bytes : List ℕ) (pdu : Pdu) (r : DvcRefusal) → Spells from bytes pdu → length bytes ≤ 1600 → Refused from bytes r → ⊥
-not_both_ways from bytes pdu r s h f = not_both pdu r (is_read from bytes pdu s h) (is_answer from bytes r f)
+  ];
+}
 
 -- ---- what a writer spells
 
@@ -134,7 +114,7 @@ written_spells from (Data id bytes) fits =
 
 -- what a writer spells is read back
 pub written_is_read : (from : Role) (pdu : Pdu) → IsPdu from pdu → reading from (spelled pdu) ≡ Ok pdu
-written_is_read from pdu fits = is_read from (spelled pdu) pdu (written_spells from pdu fits.0) fits.1
+written_is_read from pdu fits = (meaning from).reads pdu (spelled pdu) (written_spells from pdu fits.0, fits.1)
 
 -- no spelling of a PDU is shorter than the writer's
 pub shortest : (from : Role) (bytes : List ℕ) (pdu : Pdu) → Spells from bytes pdu → length (spelled pdu) ≤ length bytes
@@ -154,31 +134,31 @@ shortest from bytes (Data id content) s =
 
 -- ---- the same of what a reader answered
 
-answer_is : (from : Role) (bytes : List ℕ) (r : Result DvcPdu DvcRefusal) → length bytes ≤ 1600 → Answers pdu_of r (pdu_at from (at 0 bytes)) → Answers pdu_of r (reading from bytes)
+answer_is : (from : Role) (bytes : List ℕ) (r : Result DvcPdu DvcRefusal) → length bytes ≤ 1600 → Answers pdu_of r (pdu_at from (left_at 0 bytes)) → Answers pdu_of r (reading from bytes)
 answer_is from bytes (Ok p) h is = within from bytes h ∙ is
 answer_is from bytes (Err e) h is = within from bytes h ∙ is
 
-found_by : (from : Role) (bytes : List ℕ) (r : Result DvcPdu DvcRefusal) → IsBytes bytes → Answers pdu_of r (reading from bytes) → IfOk r (λ p. Spells from bytes (pdu_of p) × (length bytes ≤ 1600))
-found_by from bytes (Ok p) good is = was_spelled from bytes (pdu_of p) good is
+found_by : (from : Role) (bytes : List ℕ) (r : Result DvcPdu DvcRefusal) → IsBytes bytes → Answers pdu_of r (reading from bytes) → IfOk r (λ p. Encodes from bytes (pdu_of p))
+found_by from bytes (Ok p) good is = was_spelled (meaning from) (pdu_of p) bytes good is
 found_by from bytes (Err e) good is = tt
 
-only_by : (from : Role) (bytes : List ℕ) (r : Result DvcPdu DvcRefusal) → Answers pdu_of r (reading from bytes) → (pdu : Pdu) → Spells from bytes pdu → length bytes ≤ 1600
+only_by : (from : Role) (bytes : List ℕ) (r : Result DvcPdu DvcRefusal) → Answers pdu_of r (reading from bytes) → (pdu : Pdu) → Encodes from bytes pdu
     → IsOkAnd r (λ p. pdu_of p ≡ pdu)
-only_by from bytes (Ok p) is pdu s h = ok_is (pdu_of p) pdu is (is_read from bytes pdu s h)
-only_by from bytes (Err e) is pdu s h = not_both pdu e (is_read from bytes pdu s h) is
+only_by from bytes (Ok p) is pdu s = ok_is (pdu_of p) pdu is ((meaning from).reads pdu bytes s)
+only_by from bytes (Err e) is pdu s = not_both pdu e ((meaning from).reads pdu bytes s) is
 
 fault_by : (from : Role) (bytes : List ℕ) (r : Result DvcPdu DvcRefusal) → IsBytes bytes → Answers pdu_of r (reading from bytes) → IfErr r (λ e. Refused from bytes e)
 fault_by from bytes (Ok p) good is = tt
-fault_by from bytes (Err e) good is = was_fault from bytes e good is
+fault_by from bytes (Err e) good is = was_fault (meaning from) e bytes good is
 
 -- what a reader of at most 1,600 bytes answered
 pub record Answered (from : Role) (bytes : List ℕ) (r : Result DvcPdu DvcRefusal) : Type 0 where
-  pub found : IfOk r (λ p. Spells from bytes (pdu_of p) × (length bytes ≤ 1600))
-  pub only : (pdu : Pdu) → Spells from bytes pdu → length bytes ≤ 1600 → IsOkAnd r (λ p. pdu_of p ≡ pdu)
+  pub found : IfOk r (λ p. Encodes from bytes (pdu_of p))
+  pub only : (pdu : Pdu) → Encodes from bytes pdu → IsOkAnd r (λ p. pdu_of p ≡ pdu)
   pub refused : IfErr r (λ e. Refused from bytes e)
 
 pub answered : (from : Role) (bytes : List ℕ) (s : Left) (r : Result DvcPdu DvcRefusal) → ((i : ℕ) → get_or bytes i 0 < 256) → length bytes ≤ 1600
-    → s ≡ at 0 bytes → Answers pdu_of r (pdu_at from s) → Answered from bytes r
+    → s ≡ left_at 0 bytes → Answers pdu_of r (pdu_at from s) → Answered from bytes r
 answered from bytes s r byte h starts is =
     let good : IsBytes bytes = All-from_get_or (λ b. b < 256) bytes 0 (λ i within. byte i) in
     let exact = answer_is from bytes r h (subst (λ s. Answers pdu_of r (pdu_at from s)) starts is) in

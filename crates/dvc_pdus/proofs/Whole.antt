@@ -5,13 +5,14 @@ use Rattle.std.specs.List.{All}
 use Rattle.std.proofs.lemmas.Bool.{cases_eq, cases_lt, ne_eqb}
 use Rattle.std.proofs.lemmas.List.{length-append}
 use Rattle.std.proofs.lemmas.List.Elements.{All-append, All-cons, All-nil, All-head, All-tail}
-use Rattle.byteorder.specs.Endian.{little_bytes, big_number}
-use Rattle.mt_base.specs.Reading.{Left, big}
+use Rattle.byteorder.specs.Endian.{little_bytes}
+use Rattle.mt_base.specs.Reading.{Left}
 use Rattle.mt_base.specs.Writing.{joined}
 use Rattle.mt_base.specs.declared.kinds.Role.{Role}
 use Rattle.mt_base.specs.declared.kinds.Role.TheVariants.{Server, Client}
 use Rattle.mt_base.proofs.Numbers.{IsBytes}
-use Rattle.mt_base.proofs.Fields.{behind, Begins, little_or, field_refuses, byte_law, as_err}
+use Rattle.mt_base.proofs.Fields.{behind, as_err, Begins, little_or}
+use Rattle.mt_base.proofs.Fronts.{left_at, byte_reads, big_cut}
 use Rattle.dvc_pdus.specs.declared.command.Command.TheVariants as command
 use Rattle.dvc_pdus.specs.declared.pdu.DvcRefusal.{DvcRefusal}
 use Rattle.dvc_pdus.specs.declared.pdu.DvcRefusal.TheVariants as refusal
@@ -21,26 +22,23 @@ use Rattle.dvc_pdus.specs.Layout.{first_byte, id_in, IsSizeOf, Spells}
 use Rattle.dvc_pdus.specs.Faults
 use Rattle.dvc_pdus.specs.Faults.{RefusedId, RefusedName, Cut, Headed, IsUnknown, HasId, IsClosed, RefusedFields, Refused}
 use Rattle.dvc_pdus.proofs.Parts.{Named, named, misnamed, named_or, ended_none, ended_more}
-use Rattle.dvc_pdus.proofs.Bodies.{at, data_reads, data_id, request_reads, request_id, request_name, response_reads, response_id, response_status, capabilities_bare, capabilities_read, capabilities_pad, capabilities_version, capabilities_charge}
+use Rattle.dvc_pdus.proofs.Bodies.{data_reads, data_id, request_reads, request_id, request_name, response_reads, response_id, response_status, capabilities_bare, capabilities_read, capabilities_pad, capabilities_version, capabilities_charge}
 
 -- ---- the header byte
 
-byte_reads : (x : ℕ) → x < 256 → (rest : List ℕ) → cut (big 1 (at 0 (x ∷ rest))) ≡ Ok (x, at 1 rest)
-byte_reads x h rest = (byte_law refusal.Short).again x (x ∷ []) (h, refl) (at 0 (x ∷ rest)) rest refl
-
 -- behind a header byte the body is read
 headed_reads : (from : Role) (bytes : List ℕ) (command own size : ℕ) (rest : List ℕ) → command < 16 → Headed bytes command own size rest
-    → pdu_at from (at 0 bytes) ≡ body_at from (command_of command) own size (at 1 rest)
+    → pdu_at from (left_at 0 bytes) ≡ body_at from (command_of command) own size (left_at 1 rest)
 unfolding pdu_at
 headed_reads from bytes command own size rest small (o, z, is) =
     let x = command * 16 + own * 4 + size in
     let c : x / 16 ≡ command = omega arith in
     let w : x / 4 % 4 ≡ own = omega arith in
     let n : x % 4 ≡ size = omega arith in
-    rw (is, byte_reads x (omega arith) rest) (parts x command own size c w n)
+    rw (is, byte_reads refusal.Short x (omega arith) 0 rest) (parts x command own size c w n)
   where
     parts : (x command own size : ℕ) → x / 16 ≡ command → x / 4 % 4 ≡ own → x % 4 ≡ size
-        → body_at from (command_of (x / 16)) (x / 4 % 4) (x % 4) (at 1 rest) ≡ body_at from (command_of command) own size (at 1 rest)
+        → body_at from (command_of (x / 16)) (x / 4 % 4) (x % 4) (left_at 1 rest) ≡ body_at from (command_of command) own size (left_at 1 rest)
     parts x command own size c w n = rw (c, w, n) refl
 
 unknown_reads : (command : ℕ) → IsUnknown command → command_of command ≡ None
@@ -49,7 +47,7 @@ unknown_reads command (small, one, three, five) = rw (ne_eqb command 1 one, ne_e
 -- ---- what is spelled is read
 
 IsRead : Role → List ℕ → Pdu → Type 0
-IsRead from bytes pdu = pdu_at from (at 0 bytes) ≡ Ok pdu
+IsRead from bytes pdu = pdu_at from (left_at 0 bytes) ≡ Ok pdu
 
 capabilities_body : (from : Role) (own size : ℕ) (s : Left) → body_at from (Some command.Capabilities) own size s ≡ capabilities_at s
 unfolding body_at
@@ -82,7 +80,7 @@ charges_length [] = refl
 charges_length (c ∷ charges) = let e = charges_length charges in omega (arith, e)
 
 -- a PDU that ends is read up to its end
-closed_reads : (from : Role) (text : List ℕ) (pdu : Pdu) → Spells from text pdu → IsClosed pdu → (rest : List ℕ) → pdu_at from (at 0 (text ++ rest)) ≡ ended pdu (at (length text) rest)
+closed_reads : (from : Role) (text : List ℕ) (pdu : Pdu) → Spells from text pdu → IsClosed pdu → (rest : List ℕ) → pdu_at from (left_at 0 (text ++ rest)) ≡ ended pdu (left_at (length text) rest)
 closed_reads from text (Caps version None) s closed rest = absurd closed
 closed_reads from text (Caps version (Some charges)) s closed rest =
     let c = s.choice in
@@ -90,16 +88,16 @@ closed_reads from text (Caps version (Some charges)) s closed rest =
     let whole : text ++ rest ≡ first_byte 5 c.unnamed c.size ++ (c.pad ∷ (little_bytes 2 version ++ (body ++ rest))) = ap (λ t. t ++ rest) s.bytes_are in
     let place : 12 ≡ length text = omega (arith, ap length s.bytes_are, charges_length charges, s.fits.1) in
     headed_reads from (text ++ rest) 5 c.unnamed c.size (c.pad ∷ (little_bytes 2 version ++ (body ++ rest))) (omega arith) (s.allowed.0, s.allowed.1, whole)
-    ∙ capabilities_body from c.unnamed c.size (at 1 (c.pad ∷ (little_bytes 2 version ++ (body ++ rest))))
-    ∙ capabilities_read c.pad version charges s.allowed.2 s.fits.0 s.fits.1 s.fits.2 rest ∙ ap (λ n. ended (Caps version (Some charges)) (at n rest)) place
+    ∙ capabilities_body from c.unnamed c.size (left_at 1 (c.pad ∷ (little_bytes 2 version ++ (body ++ rest))))
+    ∙ capabilities_read c.pad version charges s.allowed.2 s.fits.0 s.fits.1 s.fits.2 rest ∙ ap (λ n. ended (Caps version (Some charges)) (left_at n rest)) place
 closed_reads Server text (CreateRequest id priority name) s closed rest =
     let c = s.choice in
     let front = id_in c.size id in
     let whole : text ++ rest ≡ first_byte 1 priority c.size ++ (front ++ ((name ++ (0 ∷ [])) ++ rest)) = ap (λ t. t ++ rest) s.bytes_are ∙ simp append_assoc in
     let place : 1 + length front + length (name ++ (0 ∷ [])) ≡ length text = omega (arith, ap length s.bytes_are, length-append front (name ++ (0 ∷ []))) in
     headed_reads Server (text ++ rest) 1 priority c.size (front ++ ((name ++ (0 ∷ [])) ++ rest)) (omega arith) (s.fits.1, small_size c.size s.allowed.0, whole)
-    ∙ request_body priority c.size (at 1 (front ++ ((name ++ (0 ∷ [])) ++ rest)))
-    ∙ request_reads priority c.size id name s.allowed s.fits.2 1 rest ∙ ap (λ n. ended (CreateRequest id priority name) (at n rest)) place
+    ∙ request_body priority c.size (left_at 1 (front ++ ((name ++ (0 ∷ [])) ++ rest)))
+    ∙ request_reads priority c.size id name s.allowed s.fits.2 1 rest ∙ ap (λ n. ended (CreateRequest id priority name) (left_at n rest)) place
 closed_reads Client text (CreateRequest id priority name) s closed rest = absurd s.fits
 closed_reads Server text (CreateResponse id status) s closed rest = absurd s.fits
 closed_reads Client text (CreateResponse id status) s closed rest =
@@ -108,20 +106,20 @@ closed_reads Client text (CreateResponse id status) s closed rest =
     let whole : text ++ rest ≡ first_byte 1 c.unnamed c.size ++ (front ++ (little_bytes 4 status ++ rest)) = ap (λ t. t ++ rest) s.bytes_are ∙ simp append_assoc in
     let place : 1 + length front + length (little_bytes 4 status) ≡ length text = omega (arith, ap length s.bytes_are, length-append front (little_bytes 4 status)) in
     headed_reads Client (text ++ rest) 1 c.unnamed c.size (front ++ (little_bytes 4 status ++ rest)) (omega arith) (s.allowed.0, small_size c.size s.allowed.1.0, whole)
-    ∙ response_body c.unnamed c.size (at 1 (front ++ (little_bytes 4 status ++ rest)))
-    ∙ response_reads c.size id status s.allowed.1 s.fits.1 1 rest ∙ ap (λ n. ended (CreateResponse id status) (at n rest)) place
+    ∙ response_body c.unnamed c.size (left_at 1 (front ++ (little_bytes 4 status ++ rest)))
+    ∙ response_reads c.size id status s.allowed.1 s.fits.1 1 rest ∙ ap (λ n. ended (CreateResponse id status) (left_at n rest)) place
 closed_reads from text (Data id bytes) s closed rest = absurd closed
 
-closed_is_read : (from : Role) (text : List ℕ) (pdu : Pdu) → Spells from text pdu → IsClosed pdu → pdu_at from (at 0 text) ≡ Ok pdu
+closed_is_read : (from : Role) (text : List ℕ) (pdu : Pdu) → Spells from text pdu → IsClosed pdu → pdu_at from (left_at 0 text) ≡ Ok pdu
 closed_is_read from text pdu s closed =
-    ap (λ t. pdu_at from (at 0 t)) (sym (append-nil text)) ∙ closed_reads from text pdu s closed [] ∙ ended_none pdu (length text)
+    ap (λ t. pdu_at from (left_at 0 t)) (sym (append-nil text)) ∙ closed_reads from text pdu s closed [] ∙ ended_none pdu (length text)
 
 -- what is spelled is read, at any length
-pub spelled_reads : (from : Role) (bytes : List ℕ) (pdu : Pdu) → Spells from bytes pdu → pdu_at from (at 0 bytes) ≡ Ok pdu
+pub spelled_reads : (from : Role) (bytes : List ℕ) (pdu : Pdu) → Spells from bytes pdu → pdu_at from (left_at 0 bytes) ≡ Ok pdu
 spelled_reads from bytes (Caps version None) s =
     let c = s.choice in
     headed_reads from bytes 5 c.unnamed c.size (c.pad ∷ (little_bytes 2 version ++ [])) (omega arith) (s.allowed.0, s.allowed.1, s.bytes_are)
-    ∙ capabilities_body from c.unnamed c.size (at 1 (c.pad ∷ (little_bytes 2 version ++ []))) ∙ capabilities_bare c.pad version s.allowed.2 s.fits
+    ∙ capabilities_body from c.unnamed c.size (left_at 1 (c.pad ∷ (little_bytes 2 version ++ []))) ∙ capabilities_bare c.pad version s.allowed.2 s.fits
 spelled_reads from bytes (Caps version (Some charges)) s = closed_is_read from bytes (Caps version (Some charges)) s tt
 spelled_reads from bytes (CreateRequest id priority name) s = closed_is_read from bytes (CreateRequest id priority name) s tt
 spelled_reads from bytes (CreateResponse id status) s = closed_is_read from bytes (CreateResponse id status) s tt
@@ -130,49 +128,45 @@ spelled_reads from bytes (Data id content) s =
     let whole : bytes ≡ first_byte 3 c.unnamed c.size ++ (id_in c.size id ++ content) =
     s.bytes_are ∙ ap (λ t. first_byte 3 c.unnamed c.size ++ (id_in c.size id ++ t)) (append-nil content) in
     headed_reads from bytes 3 c.unnamed c.size (id_in c.size id ++ content) (omega arith) (s.allowed.0, small_size c.size s.allowed.1.0, whole)
-    ∙ data_body from c.unnamed c.size (at 1 (id_in c.size id ++ content)) ∙ data_reads c.size id s.allowed.1 1 content
+    ∙ data_body from c.unnamed c.size (left_at 1 (id_in c.size id ++ content)) ∙ data_reads c.size id s.allowed.1 1 content
 
 -- ---- each fault is the answer
 
-body_answer : (from : Role) (bytes : List ℕ) (command own size : ℕ) (rest : List ℕ) (r : DvcRefusal) → command < 16 → Headed bytes command own size rest
-    → body_at from (command_of command) own size (at 1 rest) ≡ Err r → pdu_at from (at 0 bytes) ≡ Err r
-body_answer from bytes command own size rest r small headed is = headed_reads from bytes command own size rest small headed ∙ is
-
-header_answer : (from : Role) (bytes : List ℕ) (r : DvcRefusal) → Cut 0 1 bytes r → pdu_at from (at 0 bytes) ≡ Err r
+header_answer : (from : Role) (bytes : List ℕ) (r : DvcRefusal) → Cut 0 1 bytes r → pdu_at from (left_at 0 bytes) ≡ Err r
 unfolding pdu_at
-header_answer from bytes r fault = rw ((field_refuses refusal.Short 1 (big_number 1)).answer (at 0 bytes) r fault) refl
+header_answer from bytes r fault = rw (big_cut refusal.Short 1 0 bytes r fault) refl
 
 id_wrong_answer : (from : Role) (bytes : List ℕ) (own size : ℕ) (rest : List ℕ) (r : DvcRefusal) → (command : ℕ) → HasId command → Headed bytes command own size rest
-    → RefusedId size rest r → pdu_at from (at 0 bytes) ≡ Err r
+    → RefusedId size rest r → pdu_at from (left_at 0 bytes) ≡ Err r
 id_wrong_answer Server bytes own size rest r command (inl one) headed fault =
-    headed_reads Server bytes 1 own size rest (omega arith) (subst (λ c. Headed bytes c own size rest) one headed) ∙ request_body own size (at 1 rest) ∙ request_id own size rest r fault
+    headed_reads Server bytes 1 own size rest (omega arith) (subst (λ c. Headed bytes c own size rest) one headed) ∙ request_body own size (left_at 1 rest) ∙ request_id own size rest r fault
 id_wrong_answer Client bytes own size rest r command (inl one) headed fault =
-    headed_reads Client bytes 1 own size rest (omega arith) (subst (λ c. Headed bytes c own size rest) one headed) ∙ response_body own size (at 1 rest) ∙ response_id size rest r fault
+    headed_reads Client bytes 1 own size rest (omega arith) (subst (λ c. Headed bytes c own size rest) one headed) ∙ response_body own size (left_at 1 rest) ∙ response_id size rest r fault
 id_wrong_answer from bytes own size rest r command (inr three) headed fault =
-    headed_reads from bytes 3 own size rest (omega arith) (subst (λ c. Headed bytes c own size rest) three headed) ∙ data_body from own size (at 1 rest) ∙ data_id size rest r fault
+    headed_reads from bytes 3 own size rest (omega arith) (subst (λ c. Headed bytes c own size rest) three headed) ∙ data_body from own size (left_at 1 rest) ∙ data_id size rest r fault
 
 -- each first fault is the answer
-pub fault_answer : (from : Role) (bytes : List ℕ) (r : DvcRefusal) → RefusedFields from bytes r → pdu_at from (at 0 bytes) ≡ Err r
+pub fault_answer : (from : Role) (bytes : List ℕ) (r : DvcRefusal) → RefusedFields from bytes r → pdu_at from (left_at 0 bytes) ≡ Err r
 fault_answer from bytes r (Faults.header_cut fault) = header_answer from bytes r fault
 fault_answer from bytes r (Faults.unknown command own size rest none headed is) =
-    headed_reads from bytes command own size rest none.0 headed ∙ ap (λ c. body_at from c own size (at 1 rest)) (unknown_reads command none)
-    ∙ as_err (no_body from own size (at 1 rest)) is
+    headed_reads from bytes command own size rest none.0 headed ∙ ap (λ c. body_at from c own size (left_at 1 rest)) (unknown_reads command none)
+    ∙ as_err (no_body from own size (left_at 1 rest)) is
 fault_answer from bytes r (Faults.id_wrong command own size rest has headed fault) = id_wrong_answer from bytes own size rest r command has headed fault
 fault_answer from bytes r (Faults.name_wrong own size id rest server fits headed fault) =
-    subst (λ f. pdu_at f (at 0 bytes) ≡ Err r) (sym server)
-    (headed_reads Server bytes 1 own size (id_in size id ++ rest) (omega arith) headed ∙ request_body own size (at 1 (id_in size id ++ rest)) ∙ request_name own size id rest r fits fault)
+    subst (λ f. pdu_at f (left_at 0 bytes) ≡ Err r) (sym server)
+    (headed_reads Server bytes 1 own size (id_in size id ++ rest) (omega arith) headed ∙ request_body own size (left_at 1 (id_in size id ++ rest)) ∙ request_name own size id rest r fits fault)
 fault_answer from bytes r (Faults.status_cut own size id rest client fits headed fault) =
-    subst (λ f. pdu_at f (at 0 bytes) ≡ Err r) (sym client)
-    (headed_reads Client bytes 1 own size (id_in size id ++ rest) (omega arith) headed ∙ response_body own size (at 1 (id_in size id ++ rest)) ∙ response_status size id rest r fits fault)
+    subst (λ f. pdu_at f (left_at 0 bytes) ≡ Err r) (sym client)
+    (headed_reads Client bytes 1 own size (id_in size id ++ rest) (omega arith) headed ∙ response_body own size (left_at 1 (id_in size id ++ rest)) ∙ response_status size id rest r fits fault)
 fault_answer from bytes r (Faults.pad_cut own size rest headed fault) =
-    headed_reads from bytes 5 own size rest (omega arith) headed ∙ capabilities_body from own size (at 1 rest) ∙ capabilities_pad rest r fault
+    headed_reads from bytes 5 own size rest (omega arith) headed ∙ capabilities_body from own size (left_at 1 rest) ∙ capabilities_pad rest r fault
 fault_answer from bytes r (Faults.version_cut own size pad rest p headed fault) =
-    headed_reads from bytes 5 own size (pad ∷ rest) (omega arith) headed ∙ capabilities_body from own size (at 1 (pad ∷ rest)) ∙ capabilities_version pad rest r p fault
+    headed_reads from bytes 5 own size (pad ∷ rest) (omega arith) headed ∙ capabilities_body from own size (left_at 1 (pad ∷ rest)) ∙ capabilities_version pad rest r p fault
 fault_answer from bytes r (Faults.charge_cut own size pad version before rest p v good few some headed fault) =
     let body = pad ∷ (little_bytes 2 version ++ (joined (map (little_bytes 2) before) ++ rest)) in
-    headed_reads from bytes 5 own size body (omega arith) headed ∙ capabilities_body from own size (at 1 body) ∙ capabilities_charge pad version before rest r p v good few some fault
+    headed_reads from bytes 5 own size body (omega arith) headed ∙ capabilities_body from own size (left_at 1 body) ∙ capabilities_charge pad version before rest r p v good few some fault
 fault_answer from bytes r (Faults.trailing pdu text rest b spells closed is r_is) =
-    ap (λ t. pdu_at from (at 0 t)) is ∙ closed_reads from text pdu spells closed (b ∷ rest) ∙ as_err (ended_more pdu (length text) b rest) r_is
+    ap (λ t. pdu_at from (left_at 0 t)) is ∙ closed_reads from text pdu spells closed (b ∷ rest) ∙ as_err (ended_more pdu (length text) b rest) r_is
 
 -- ---- bytes are spelled or have a fault
 

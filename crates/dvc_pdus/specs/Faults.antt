@@ -22,10 +22,13 @@ pub data RefusedId (size : ℕ) (bytes : List ℕ) (r : DvcRefusal) : Type 0 whe
 -- The first fault of a name at this place: the first byte that is none of a name, also a zero byte
 -- that ends nothing; a 256th byte; or no end.
 pub data RefusedName (at : ℕ) (bytes : List ℕ) (r : DvcRefusal) : Type 0 where
-  wrong_byte : (good rest : List ℕ) (b : ℕ) → All IsNameByte good → length good < 256 → (IsNameByte b → ⊥) → (b ≡ 0 → length good ≡ 0)
-      → bytes ≡ good ++ (b ∷ rest) → r ≡ refusal.BadName (at + length good) → RefusedName at bytes r
-  too_many : (good rest : List ℕ) → All IsNameByte good → length good ≡ 256 → bytes ≡ good ++ rest → r ≡ refusal.BadName (at + 255) → RefusedName at bytes r
-  not_ended : All IsNameByte bytes → length bytes < 256 → r ≡ refusal.NameNotEnded (at + length bytes) → RefusedName at bytes r
+  wrong_byte : (good rest : List ℕ) (b : ℕ) → All IsNameByte good → length good < 256
+      → (IsNameByte b → ⊥) → (b ≡ 0 → length good ≡ 0) → bytes ≡ good ++ (b ∷ rest)
+      → r ≡ refusal.BadName (at + length good) → RefusedName at bytes r
+  too_many : (good rest : List ℕ) → All IsNameByte good → length good ≡ 256 → bytes ≡ good ++ rest
+      → r ≡ refusal.BadName (at + 255) → RefusedName at bytes r
+  not_ended : All IsNameByte bytes → length bytes < 256
+      → r ≡ refusal.NameNotEnded (at + length bytes) → RefusedName at bytes r
 
 -- a header byte, and what stands behind it
 abbrev pub Headed : List ℕ → ℕ → ℕ → ℕ → List ℕ → Type 0
@@ -47,22 +50,35 @@ IsClosed (CreateRequest id priority name) = Unit {0}
 IsClosed (CreateResponse id status) = Unit {0}
 IsClosed (Data id bytes) = ⊥
 
+-- priority charges, one behind the other
+abbrev pub charges_in : List ℕ → List ℕ
+charges_in charges = joined (map (little_bytes 2) charges)
+
 -- the first fault of a PDU in its fields
 pub data RefusedFields (from : Role) (bytes : List ℕ) (r : DvcRefusal) : Type 0 where
   header_cut : Cut 0 1 bytes r → RefusedFields from bytes r
-  unknown : (command own size : ℕ) (rest : List ℕ) → IsUnknown command → Headed bytes command own size rest → r ≡ refusal.UnknownCommand 0 → RefusedFields from bytes r
-  id_wrong : (command own size : ℕ) (rest : List ℕ) → HasId command → Headed bytes command own size rest → RefusedId size rest r → RefusedFields from bytes r
-  name_wrong : (own size id : ℕ) (rest : List ℕ) → from ≡ Server → IsSizeOf size id → Headed bytes 1 own size (id_in size id ++ rest)
-      → RefusedName (1 + 2 ^ size) rest r → RefusedFields from bytes r
-  status_cut : (own size id : ℕ) (rest : List ℕ) → from ≡ Client → IsSizeOf size id → Headed bytes 1 own size (id_in size id ++ rest)
-      → Cut (1 + 2 ^ size) 4 rest r → RefusedFields from bytes r
-  pad_cut : (own size : ℕ) (rest : List ℕ) → Headed bytes 5 own size rest → Cut 1 1 rest r → RefusedFields from bytes r
-  version_cut : (own size pad : ℕ) (rest : List ℕ) → pad < 256 → Headed bytes 5 own size (pad ∷ rest) → Cut 2 2 rest r → RefusedFields from bytes r
-  charge_cut : (own size pad version : ℕ) (before rest : List ℕ) → pad < 256 → version < 2 ^ 16 → All (λ c. c < 2 ^ 16) before → length before < 4
-      → 0 < length before + length rest → Headed bytes 5 own size (pad ∷ (little_bytes 2 version ++ (joined (map (little_bytes 2) before) ++ rest)))
+  unknown : (command own size : ℕ) (rest : List ℕ) → IsUnknown command
+      → Headed bytes command own size rest → r ≡ refusal.UnknownCommand 0
+      → RefusedFields from bytes r
+  id_wrong : (command own size : ℕ) (rest : List ℕ) → HasId command
+      → Headed bytes command own size rest → RefusedId size rest r → RefusedFields from bytes r
+  name_wrong : (own size id : ℕ) (rest : List ℕ) → from ≡ Server → IsSizeOf size id
+      → Headed bytes 1 own size (id_in size id ++ rest) → RefusedName (1 + 2 ^ size) rest r
+      → RefusedFields from bytes r
+  status_cut : (own size id : ℕ) (rest : List ℕ) → from ≡ Client → IsSizeOf size id
+      → Headed bytes 1 own size (id_in size id ++ rest) → Cut (1 + 2 ^ size) 4 rest r
+      → RefusedFields from bytes r
+  pad_cut : (own size : ℕ) (rest : List ℕ) → Headed bytes 5 own size rest → Cut 1 1 rest r
+      → RefusedFields from bytes r
+  version_cut : (own size pad : ℕ) (rest : List ℕ) → pad < 256
+      → Headed bytes 5 own size (pad ∷ rest) → Cut 2 2 rest r → RefusedFields from bytes r
+  charge_cut : (own size pad version : ℕ) (before rest : List ℕ) → pad < 256 → version < 2 ^ 16
+      → All (λ c. c < 2 ^ 16) before → length before < 4 → 0 < length before + length rest
+      → Headed bytes 5 own size (pad ∷ (little_bytes 2 version ++ (charges_in before ++ rest)))
       → Cut (4 + 2 * length before) 2 rest r → RefusedFields from bytes r
-  trailing : (pdu : Pdu) (text rest : List ℕ) (b : ℕ) → Spells from text pdu → IsClosed pdu → bytes ≡ text ++ (b ∷ rest)
-      → r ≡ refusal.Trailing (length text) → RefusedFields from bytes r
+  trailing : (pdu : Pdu) (text rest : List ℕ) (b : ℕ) → Spells from text pdu → IsClosed pdu
+      → bytes ≡ text ++ (b ∷ rest) → r ≡ refusal.Trailing (length text)
+      → RefusedFields from bytes r
 
 -- why these bytes are no channel PDU of this end: too many, or the first fault in their fields
 pub data Refused (from : Role) (bytes : List ℕ) (r : DvcRefusal) : Type 0 where

@@ -1,6 +1,6 @@
 -- The layouts of channel PDUs (MS-RDPEDYC section 2.2): which bytes spell a PDU. A writer has a
 -- choice where a size is wider than needed or where bits and bytes have no meaning.
-use Rattle.std.specs.Prelude.{◌≡◌, ℕ, ◌+◌, ◌*◌, ◌^◌, ◌<◌, List, [], ◌∷◌}
+use Rattle.std.specs.Prelude.{◌≡◌, ℕ, ◌+◌, ◌*◌, ◌^◌, ◌<◌, ◌≤◌, List, [], ◌∷◌, length}
 use Rattle.byteorder.specs.Endian.{little_bytes}
 use Rattle.mt_base.specs.Writing.{joined}
 use Rattle.mt_base.specs.declared.kinds.Role.{Role}
@@ -28,9 +28,12 @@ IsSizeOf size id = (size < 3) × (id < 256 ^ 2 ^ size)
 
 -- the fields of a PDU in order
 abbrev pub layout : Choice → Pdu → List (List ℕ)
-layout c (Caps version charges) = first_byte 5 c.unnamed c.size ∷ (c.pad ∷ []) ∷ little_bytes 2 version ∷ charge_fields charges
-layout c (CreateRequest id priority name) = first_byte 1 priority c.size ∷ id_in c.size id ∷ name ∷ (0 ∷ []) ∷ []
-layout c (CreateResponse id status) = first_byte 1 c.unnamed c.size ∷ id_in c.size id ∷ little_bytes 4 status ∷ []
+layout c (Caps version charges) =
+    first_byte 5 c.unnamed c.size ∷ (c.pad ∷ []) ∷ little_bytes 2 version ∷ charge_fields charges
+layout c (CreateRequest id priority name) =
+    first_byte 1 priority c.size ∷ id_in c.size id ∷ name ∷ (0 ∷ []) ∷ []
+layout c (CreateResponse id status) =
+    first_byte 1 c.unnamed c.size ∷ id_in c.size id ∷ little_bytes 4 status ∷ []
 layout c (Data id bytes) = first_byte 3 c.unnamed c.size ∷ id_in c.size id ∷ bytes ∷ []
 
 -- a choice that the layout of this PDU has
@@ -46,3 +49,7 @@ pub record Spells (from : Role) (bytes : List ℕ) (pdu : Pdu) : Type 0 where
   pub allowed : Allows choice pdu
   pub fits : Fits from pdu
   pub bytes_are : bytes ≡ joined (layout choice pdu)
+
+-- these bytes are this PDU of this end: they spell it, and are at most 1,600
+abbrev pub Encodes : Role → List ℕ → Pdu → Type 0
+Encodes from bytes pdu = Spells from bytes pdu × (length bytes ≤ 1600)

@@ -3,3 +3,5 @@ pub mod Reading
 pub mod Views
 pub mod Layout
 pub mod Faults
+pub mod Space
+pub mod RoomView

@@ -26,12 +26,17 @@ cut (Err e) = Err (refusal.Short e)
 -- the command that a code names
 abbrev pub command_of : ℕ → Option Command
 command_of code =
-    if eqb code 1 then Some command.Create else if eqb code 3 then Some command.Data else if eqb code 5 then Some command.Capabilities else None
+    if eqb code 1 then Some command.Create
+    else if eqb code 3 then Some command.Data
+    else if eqb code 5 then Some command.Capabilities
+    else None
 
 -- a channel id, in the size that the header byte tells
 unfoldable pub id_at : ℕ → Left → Result (ℕ × Left) DvcRefusal
 id_at size s =
-    if eqb size 0 then cut (little 1 s) else if eqb size 1 then cut (little 2 s) else if eqb size 2 then cut (little 4 s)
+    if eqb size 0 then cut (little 1 s)
+    else if eqb size 1 then cut (little 2 s)
+    else if eqb size 2 then cut (little 4 s)
     else Err (refusal.BadCbId 0)
 
 -- nothing stands after the last field
@@ -47,10 +52,12 @@ is_name_byte b = not (nat_lt b 0x20) && not (nat_lt 0x7E b)
 -- bytes, so its end is one of the first 256 bytes.
 unfoldable pub name_to : Option ℕ → Left → Result (List ℕ × Left) DvcRefusal
 name_to (Some end) s =
-    if nat_lt 0 end && eqb (slice_index s.bytes end) 0 then Ok (take end s.bytes, past (end + 1) s)
+    if nat_lt 0 end && eqb (slice_index s.bytes end) 0
+    then Ok (take end s.bytes, past (end + 1) s)
     else Err (refusal.BadName (s.at + end))
 name_to None s =
-    if nat_lt (length s.bytes) 256 then Err (refusal.NameNotEnded (s.at + length s.bytes)) else Err (refusal.BadName (s.at + 255))
+    if nat_lt (length s.bytes) 256 then Err (refusal.NameNotEnded (s.at + length s.bytes))
+    else Err (refusal.BadName (s.at + 255))
 
 unfoldable pub name_at : Left → Result (List ℕ × Left) DvcRefusal
 name_at s = name_to (position_from (λ b. not (is_name_byte b)) 0 (take 256 s.bytes)) s
@@ -107,7 +114,8 @@ pdu_at from s = do
 -- what bytes are; more than 1,600 of them are refused before anything is looked at
 unfoldable pub reading : Role → List ℕ → Result Pdu DvcRefusal
 reading from bytes =
-    if nat_lt 1600 (length bytes) then Err (refusal.TooLong 1600) else pdu_at from (record { at = 0; bytes = bytes })
+    if nat_lt 1600 (length bytes) then Err (refusal.TooLong 1600)
+    else pdu_at from (record { at = 0; bytes = bytes })
 
 -- What a reader of a part returned, seen by `view`, and what it left are what reading gives. After
 -- a refusal nothing is said of the cursor.

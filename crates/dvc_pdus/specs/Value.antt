@@ -19,7 +19,9 @@ size_code id = if nat_lt id (2 ^ 8) then 0 else if nat_lt id (2 ^ 16) then 1 els
 -- a number in its smallest size
 abbrev pub smallest : ℕ → List ℕ
 smallest id =
-    if nat_lt id (2 ^ 8) then little_bytes 1 id else if nat_lt id (2 ^ 16) then little_bytes 2 id else little_bytes 4 id
+    if nat_lt id (2 ^ 8) then little_bytes 1 id
+    else if nat_lt id (2 ^ 16) then little_bytes 2 id
+    else little_bytes 4 id
 
 -- the header byte: the command in the upper four bits, then two bits of its own, then the id's size
 abbrev pub header : ℕ → ℕ → ℕ → List ℕ
@@ -32,7 +34,8 @@ charge_fields (Some charges) = map (little_bytes 2) charges
 
 -- the fields of a PDU in order
 abbrev pub fields : Pdu → List (List ℕ)
-fields (Caps version charges) = (0x50 ∷ []) ∷ (0 ∷ []) ∷ little_bytes 2 version ∷ charge_fields charges
+fields (Caps version charges) =
+    (0x50 ∷ []) ∷ (0 ∷ []) ∷ little_bytes 2 version ∷ charge_fields charges
 fields (CreateRequest id priority name) = header 1 priority id ∷ smallest id ∷ name ∷ (0 ∷ []) ∷ []
 fields (CreateResponse id status) = header 1 0 id ∷ smallest id ∷ little_bytes 4 status ∷ []
 fields (Data id bytes) = header 3 0 id ∷ smallest id ∷ bytes ∷ []
@@ -52,7 +55,8 @@ IsName name = (1 ≤ length name) × (length name ≤ 255) × All IsNameByte nam
 -- the layout has this value, as a PDU of this end
 abbrev pub Fits : Role → Pdu → Type 0
 Fits from (Caps version None) = version < 2 ^ 16
-Fits from (Caps version (Some charges)) = (version < 2 ^ 16) × (length charges ≡ 4) × All (λ c. c < 2 ^ 16) charges
+Fits from (Caps version (Some charges)) =
+    (version < 2 ^ 16) × (length charges ≡ 4) × All (λ c. c < 2 ^ 16) charges
 Fits Server (CreateRequest id priority name) = (id < 2 ^ 32) × (priority < 4) × IsName name
 Fits Client (CreateRequest id priority name) = ⊥
 Fits Server (CreateResponse id status) = ⊥

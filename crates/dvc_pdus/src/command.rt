@@ -2,6 +2,13 @@
 
 ghost use Rattle.std.specs.Prelude.{◌≡◌};
 
+/// Creates a channel, or answers that.
+pub(crate) const CREATE: u8 = 1;
+/// Bytes of a message.
+pub(crate) const DATA: u8 = 3;
+/// Versions and priority charges.
+pub(crate) const CAPABILITIES: u8 = 5;
+
 /// What a PDU is for: the field Cmd of the header byte (section 2.2).
 #[derive(Clone, Copy, Debug, PartialEq, Eq)]
 pub(crate) enum Command {
@@ -19,9 +26,9 @@ impl Command {
         ensures { result ≡ command_of code }
     {
         match code {
-            1 => Some(Command::Create),
-            3 => Some(Command::Data),
-            5 => Some(Command::Capabilities),
+            CREATE => Some(Command::Create),
+            DATA => Some(Command::Data),
+            CAPABILITIES => Some(Command::Capabilities),
             _ => None,
         }
     }

@@ -10,9 +10,13 @@ mod command;
 mod laws;
 mod pdu;
 mod read;
+mod room;
 mod write;
 
-pub use laws::{one_meaning, written_is_read};
+pub use laws::{one_meaning, reading_by_layout, written_is_read};
 pub use pdu::{DvcPdu, DvcRefusal};
 pub use read::read_dvc;
 pub use write::write_dvc;
+
+#[cfg(test)]
+mod tests;

@@ -3,7 +3,7 @@
 use mt_base::Short;
 
 /// A channel PDU. Its parts are borrowed from the bytes that it was read from.
-#[derive(Clone, Copy, Debug)]
+#[derive(Clone, Copy, Debug, PartialEq, Eq)]
 pub enum DvcPdu<'a> {
     /// Capabilities, of either end (section 2.2.1): the version, and from version 2 on the
     /// server's four priority charges.

@@ -5,7 +5,7 @@ ghost use Rattle.std.specs.List.{position_from};
 ghost use Rattle.mt_base.specs.CursorView.{left};
 ghost use Rattle.dvc_pdus.specs.Reading.{Reads, Answers, id_at, ended, is_name_byte, name_to, name_at, charges_at, capabilities_at, create_request_at, create_response_at, data_at, body_at, pdu_at, reading};
 ghost use Rattle.dvc_pdus.specs.Value.{Pdu};
-ghost use Rattle.dvc_pdus.specs.Layout.{Spells};
+ghost use Rattle.dvc_pdus.specs.Layout.{Encodes};
 ghost use Rattle.dvc_pdus.specs.Faults.{Refused};
 ghost use Rattle.dvc_pdus.specs.Views.{pdu_of};
 
@@ -19,6 +19,7 @@ const LIMIT: usize = 1600;
 /// The bytes that a name has at most, with the zero byte that ends it.
 const NAME_LIMIT: usize = 256;
 
+/// A channel id, in the size that the header byte tells.
 #[tactic(auto, unfolding(crate::specs::Reading::id_at))]
 fn id(from: &mut Cursor<'_>, size: u8) -> Result<u32, DvcRefusal>
     ensures { Reads (λ x. x) (left from.new) result (id_at size (left from.old)) }
@@ -31,6 +32,7 @@ fn id(from: &mut Cursor<'_>, size: u8) -> Result<u32, DvcRefusal>
     }
 }
 
+/// The PDU, where nothing stands behind its last field.
 #[tactic(auto, unfolding(crate::specs::Reading::ended))]
 fn ended<'a>(from: &Cursor<'a>, pdu: DvcPdu<'a>) -> Result<DvcPdu<'a>, DvcRefusal>
     ensures { Answers pdu_of result (ended (pdu_of pdu.entry) (left from.now)) }
@@ -52,6 +54,7 @@ fn name_end(bytes: &[u8]) -> Option<usize>
         .position(|byte| *byte < 0x20 || *byte > 0x7e)
 }
 
+/// A name and its zero byte, by the place of the first byte that is none of the name.
 #[tactic(auto, unfolding(crate::specs::Reading::name_to))]
 fn name_to<'a>(from: &mut Cursor<'a>, end: Option<usize>) -> Result<&'a [u8], DvcRefusal>
     requires { IfSome end (λ end. end < length (left from.old).bytes) }
@@ -81,6 +84,7 @@ fn name_to<'a>(from: &mut Cursor<'a>, end: Option<usize>) -> Result<&'a [u8], Dv
     }
 }
 
+/// A name and the zero byte that ends it.
 #[tactic(auto, unfolding(crate::specs::Reading::name_at))]
 fn name<'a>(from: &mut Cursor<'a>) -> Result<&'a [u8], DvcRefusal>
     ensures { Reads (λ x. x.now) (left from.new) result (name_at (left from.old)) }
@@ -89,6 +93,7 @@ fn name<'a>(from: &mut Cursor<'a>) -> Result<&'a [u8], DvcRefusal>
     name_to(from, end)
 }
 
+/// The four priority charges, or nothing where no byte is left.
 #[tactic(auto, unfolding(crate::specs::Reading::charges_at))]
 fn charges(from: &mut Cursor<'_>) -> Result<Option<[u16; 4]>, DvcRefusal>
     ensures { Reads (λ x. x) (left from.new) result (charges_at (left from.old)) }
@@ -103,6 +108,7 @@ fn charges(from: &mut Cursor<'_>) -> Result<Option<[u16; 4]>, DvcRefusal>
     Ok(Some([first, second, third, fourth]))
 }
 
+/// What follows the header byte of capabilities.
 #[tactic(auto, unfolding(crate::specs::Reading::capabilities_at))]
 fn capabilities<'a>(from: &mut Cursor<'a>) -> Result<DvcPdu<'a>, DvcRefusal>
     ensures { Answers pdu_of result (capabilities_at (left from.old)) }
@@ -113,6 +119,7 @@ fn capabilities<'a>(from: &mut Cursor<'a>) -> Result<DvcPdu<'a>, DvcRefusal>
     ended(from, DvcPdu::Caps { version, charges })
 }
 
+/// What follows the header byte of a create request.
 #[tactic(auto, unfolding(crate::specs::Reading::create_request_at))]
 fn create_request<'a>(
     from: &mut Cursor<'a>,
@@ -126,6 +133,7 @@ fn create_request<'a>(
     ended(from, DvcPdu::CreateRequest { id, priority, name })
 }
 
+/// What follows the header byte of the answer to a create request.
 #[tactic(auto, unfolding(crate::specs::Reading::create_response_at))]
 fn create_response<'a>(from: &mut Cursor<'a>, size: u8) -> Result<DvcPdu<'a>, DvcRefusal>
     ensures { Answers pdu_of result (create_response_at size (left from.old)) }
@@ -135,6 +143,7 @@ fn create_response<'a>(from: &mut Cursor<'a>, size: u8) -> Result<DvcPdu<'a>, Dv
     ended(from, DvcPdu::CreateResponse { id, status })
 }
 
+/// What follows the header byte of data.
 #[tactic(auto, unfolding(crate::specs::Reading::data_at))]
 fn data<'a>(from: &mut Cursor<'a>, size: u8) -> Result<DvcPdu<'a>, DvcRefusal>
     ensures { Answers pdu_of result (data_at size (left from.old)) }
@@ -146,6 +155,7 @@ fn data<'a>(from: &mut Cursor<'a>, size: u8) -> Result<DvcPdu<'a>, DvcRefusal>
     })
 }
 
+/// What follows the header byte. `own` are its two bits of the command's own.
 #[tactic(auto, unfolding(crate::specs::Reading::body_at))]
 fn body<'a>(
     from: &mut Cursor<'a>,
@@ -165,6 +175,7 @@ fn body<'a>(
     }
 }
 
+/// The header byte, and what follows it.
 #[tactic(auto, unfolding(crate::specs::Reading::pdu_at))]
 fn pdu<'a>(from: &mut Cursor<'a>, writer: Role) -> Result<DvcPdu<'a>, DvcRefusal>
     ensures { Answers pdu_of result (pdu_at writer (left from.old)) }
@@ -182,13 +193,14 @@ fn pdu<'a>(from: &mut Cursor<'a>, writer: Role) -> Result<DvcPdu<'a>, DvcRefusal
 /// Reads a channel PDU that fills `bytes`, written by the end `from` (MS-RDPEDYC section 2.2).
 ///
 /// A PDU of more than 1,600 bytes is [`DvcRefusal::TooLong`] before anything else; else the first
-/// fault in the order of the fields is the refusal.
+/// fault in the order of the fields is the refusal. `30 01 61 62 63` is
+/// `DvcPdu::Data { id: 1, bytes: b"abc" }`, and `30` alone is `Short` at 1, which wants 1.
 #[tactic(auto, unfolding(crate::specs::Reading::reading))]
 pub fn read_dvc(from: Role, bytes: &[u8]) -> Result<DvcPdu<'_>, DvcRefusal>
-    // What is read was spelled, in at most 1,600 bytes.
-    ensures found { IfOk result (λ pdu. Spells from bytes.now (pdu_of pdu) × (length bytes.now ≤ 1600)) }
-    // What is spelled so is read.
-    ensures only { (pdu : Pdu) → Spells from bytes.now pdu → length bytes.now ≤ 1600 → IsOkAnd result (λ answer. pdu_of answer ≡ pdu) }
+    // The bytes are the PDU that is read.
+    ensures found { IfOk result (λ pdu. Encodes from bytes.now (pdu_of pdu)) }
+    // Where the bytes are a PDU, it is read.
+    ensures only { (pdu : Pdu) → Encodes from bytes.now pdu → IsOkAnd result (λ answer. pdu_of answer ≡ pdu) }
     // A refusal is the first fault.
     ensures refused { IfErr result (λ refusal. Refused from bytes.now refusal) }
     // The same as a function of the bytes.

@@ -1,13 +1,15 @@
 //! Writing PDUs.
 
-ghost use Rattle.std.specs.Prelude.{◌≡◌, ◌+◌, ◌*◌, ◌<◌, ◌^◌, ◌++◌, [], length, drop, IfOk, IfErr, Err, ℕ};
-ghost use Rattle.mt_base.specs.Writing.{Writes, put, puts};
+ghost use Rattle.std.specs.Prelude.{◌≡◌, ◌+◌, ◌*◌, ◌<◌, ◌≤◌, ◌^◌, ◌++◌, [], length, drop, IfOk, IfErr, OnOk, OnErr, Err, ℕ};
+ghost use Rattle.mt_base.specs.Writing.{Writes, put, puts, joined};
 ghost use Rattle.mt_base.specs.OutView.{spot};
 ghost use Rattle.mt_base.specs.declared.kinds.Role.{Role};
 ghost use Rattle.dvc_pdus.specs.Value.{Fits, fields, spelled, header, smallest, size_code, charge_fields};
 ghost use Rattle.dvc_pdus.specs.Views.{pdu_of};
 
+use crate::command::{CAPABILITIES, CREATE, DATA};
 use crate::pdu::DvcPdu;
+use crate::room::Room;
 use mt_base::{NoRoom, Out};
 
 /// The code of the smallest size that an id fits.
@@ -23,6 +25,7 @@ fn size_code(id: u32) -> u8
     }
 }
 
+/// Writes a header byte: the command, two bits of its own, and the code of the id's size.
 fn put_header(out: &mut Out<'_>, command: u8, own: u8, id: u32) -> Result<(), NoRoom>
     requires command { command < 16 }
     requires own { own < 4 }
@@ -46,6 +49,7 @@ fn put_id(out: &mut Out<'_>, id: u32) -> Result<(), NoRoom>
     }
 }
 
+/// Writes the four priority charges, where there are some.
 fn put_charges(out: &mut Out<'_>, charges: Option<[u16; 4]>) -> Result<(), NoRoom>
     ensures same { out.new.bytes.ghost_name ≡ out.old.bytes.ghost_name }
     ensures written { Writes (spot out.new) result (puts (charge_fields charges) (spot out.old)) }
@@ -60,6 +64,7 @@ fn put_charges(out: &mut Out<'_>, charges: Option<[u16; 4]>) -> Result<(), NoRoo
     out.put_u16_le(fourth)
 }
 
+/// Writes the fields of a PDU in order.
 fn put_pdu(out: &mut Out<'_>, pdu: &DvcPdu<'_>) -> Result<(), NoRoom>
     requires { (from : Role) × Fits from (pdu_of pdu.now) }
     ensures same { out.new.bytes.ghost_name ≡ out.old.bytes.ghost_name }
@@ -67,39 +72,50 @@ fn put_pdu(out: &mut Out<'_>, pdu: &DvcPdu<'_>) -> Result<(), NoRoom>
 {
     match *pdu {
         DvcPdu::Caps { version, charges } => {
-            out.put(&[0x50])?;
+            out.put(&[CAPABILITIES * 16])?;
             out.put(&[0])?;
             out.put_u16_le(version)?;
             put_charges(out, charges)
         }
         DvcPdu::CreateRequest { id, priority, name } => {
-            put_header(out, 1, priority, id)?;
+            put_header(out, CREATE, priority, id)?;
             put_id(out, id)?;
             out.put(name)?;
             out.put(&[0])
         }
         DvcPdu::CreateResponse { id, status } => {
-            put_header(out, 1, 0, id)?;
+            put_header(out, CREATE, 0, id)?;
             put_id(out, id)?;
             out.put_u32_le(status)
         }
         DvcPdu::Data { id, bytes } => {
-            put_header(out, 3, 0, id)?;
+            put_header(out, DATA, 0, id)?;
             put_id(out, id)?;
             out.put(bytes)
         }
     }
 }
 
+/// Whether all fields of a PDU find a place.
+fn find_room(pdu: &DvcPdu<'_>, out: &[u8]) -> Result<(), NoRoom>
+    ensures found { OnOk result (length (joined (fields (pdu_of pdu.now))) ≤ length out.now) }
+    ensures refused { IfErr result (λ e. puts (fields (pdu_of pdu.now)) (record { before = []; after = out.now }) ≡ Err e) }
+{
+    Room::new(out.len()).pass_pdu(pdu)
+}
+
 /// Writes a PDU at the front of `out`, and gives the number of its bytes (MS-RDPEDYC section 2.2).
 /// Ids have the smallest size that they fit, and the bits and bytes without a meaning are zero.
 ///
-/// Where a field does not fit it is [`NoRoom`], with that field's place and length.
+/// Where a field does not fit it is [`NoRoom`], with that field's place and length, and `out`
+/// stays as it was. `DvcPdu::Data { id: 1, bytes: b"abc" }` is written as `30 01 61 62 63`.
 pub fn write_dvc(pdu: &DvcPdu<'_>, out: &mut [u8]) -> Result<usize, NoRoom>
     requires { (from : Role) × Fits from (pdu_of pdu.now) }
     ensures ok { let text = spelled (pdu_of pdu.now) in IfOk result (λ n. (n ≡ length text) × (out.new ≡ text ++ drop n out.old)) }
     ensures no_room { IfErr result (λ e. puts (fields (pdu_of pdu.now)) (record { before = []; after = out.old }) ≡ Err e) }
+    ensures unchanged { OnErr result (out.new ≡ out.old) }
 {
+    find_room(pdu, out)?;
     let mut place = Out::new(out);
     put_pdu(&mut place, pdu)?;
     Ok(place.at())

@@ -121,6 +121,13 @@ ok_is {X} x y e f = same x y (sym e ∙ f)
     same : {X E : Type 0} (x y : X) → (let ok : X → Result X E = λ z. Ok z in ok x ≡ ok y) → x ≡ y
     same x y e = cc
 
+-- an answer is at most one refusal
+pub err_is : {X E : Type 0} {r : Result X E} {d e : E} → r ≡ Err d → r ≡ Err e → d ≡ e
+err_is {d = d} {e = e} h k = same d e (sym h ∙ k)
+  where
+    same : {X E : Type 0} (d e : E) → (let refuse : E → Result X E = λ z. Err z in refuse d ≡ refuse e) → d ≡ e
+    same d e h = cc
+
 -- a field of n bytes is refused where it is cut short, and only there
 pub field_refuses : {A E : Type 0} (wrap : Short → E) (n : ℕ) (f : List ℕ → A) → Refuses (λ s. cut_as wrap (field n f s)) (CutShort wrap n)
 field_refuses wrap n f = record {
@@ -179,7 +186,7 @@ taken_by {A} read Spells s x v text rest good is spells whole again =
     subst (λ (y : A × Left). Taken (Spells y.0) s y.1) (ok_is (v, behind s text rest) x again is)
     (record { text = text; is_text = spells; bytes_are = whole; at_is = refl; bytes_behind = bytes_after text rest s.bytes whole good })
 
-bytes_seen : (n : ℕ) → Sees n (take n) (λ (x : List ℕ). x) (λ x. (length x ≡ n) × IsBytes x)
+pub bytes_seen : (n : ℕ) → Sees n (take n) (λ (x : List ℕ). x) (λ x. (length x ≡ n) × IsBytes x)
 bytes_seen n = record {
   length_is = λ x good. good.0;
   bytes_are = λ xs long good. refl;
@@ -187,7 +194,7 @@ bytes_seen n = record {
   seen = λ x rest good. take_at x rest n good.0;
 }
 
-little_seen : (n : ℕ) → Sees n (little_number n) (little_bytes n) (λ x. x < 256 ^ n)
+pub little_seen : (n : ℕ) → Sees n (little_number n) (little_bytes n) (λ x. x < 256 ^ n)
 little_seen n = record {
   length_is = λ x good. length-bytes_low_first 0 n x;
   bytes_are = λ xs long good. little_bytes-number n xs long good;
@@ -195,7 +202,7 @@ little_seen n = record {
   seen = λ x rest good. little_number-reads_back n x rest good;
 }
 
-big_seen : (n : ℕ) → Sees n (big_number n) (big_bytes n) (λ x. x < 256 ^ n)
+pub big_seen : (n : ℕ) → Sees n (big_number n) (big_bytes n) (λ x. x < 256 ^ n)
 big_seen n = record {
   length_is = λ x good. length-bytes_high_first n x;
   bytes_are = λ xs long good. big_bytes-number n xs long good;
@@ -203,7 +210,7 @@ big_seen n = record {
   seen = λ x rest good. big_number-reads_back n x rest good;
 }
 
-byte_seen : Sees 1 (big_number 1) (λ x. x ∷ []) (λ x. x < 256)
+pub byte_seen : Sees 1 (big_number 1) (λ x. x ∷ []) (λ x. x < 256)
 byte_seen = record {
   length_is = λ x good. refl;
   bytes_are = λ xs long good. first xs long;

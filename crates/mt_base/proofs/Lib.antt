@@ -1,3 +1,12 @@
 pub mod Fill
 pub mod Numbers
 pub mod Fields
+pub mod Fronts
+pub mod Meanings
+pub mod Lists
+pub mod Bytes
+pub mod Stretches
+pub mod LowPart
+pub mod Firsts
+pub mod Steps
+pub mod Masks

@@ -1,11 +1,12 @@
 //! The ground that every other crate stands on: the two ends of a session and the two kinds of
 //! link, a cursor that reads fields from a slice, a place that writes fields into one, and the
 //! errors of both. In `specs/` stand the words that all crates share: a trace that grows at its
-//! end, a field that is read, and a list of fields that is written.
+//! end, a field that is read, a number that is shown in part, and a list of fields that is written.
 //!
 //! Below it stand `std` and `byteorder` alone. What the crates above use is that a read gives the
 //! number that its bytes spell and a write appends the bytes that spell its number, or that both
-//! refuse with the place and the length that was wanted, and then change nothing.
+//! refuse with the place and the length that was wanted, and then change nothing; and that `near`
+//! gives the one number near to a reference that has a given low part.
 #![tactic(auto)]
 
 mod errors;
@@ -13,12 +14,14 @@ mod input;
 mod kinds;
 mod laws;
 mod output;
+mod width;
 
 pub use errors::{NoMemory, NoRoom, Short};
 pub use input::Cursor;
 pub use kinds::{Kind, Role};
-pub use laws::filling;
+pub use laws::{filling, nearness};
 pub use output::Out;
+pub use width::{W16, W32, Width, near};
 
 #[cfg(test)]
 mod tests;

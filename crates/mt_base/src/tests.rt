@@ -54,3 +54,14 @@ fn the_other_end(rt: HostRuntime) {
     assert_eq!(rt; NoMemory, NoMemory);
     filling();
 }
+
+#[test]
+fn numbers_near_a_reference(rt: HostRuntime) {
+    assert_eq!(rt; near::<W16>(65_530, 3), Some(65_539));
+    assert_eq!(rt; near::<W16>(2, 65_535), None);
+    assert_eq!(rt; near::<W16>(40_000, 7_232), Some(7_232));
+    assert_eq!(rt; near::<W16>(40_000, 7_231), Some(72_767));
+    assert_eq!(rt; near::<W32>(4_294_967_290, 3), Some(4_294_967_299));
+    assert_eq!(rt; near::<W32>(9, 4_294_967_295), None);
+    nearness();
+}

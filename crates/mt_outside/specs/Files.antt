@@ -38,7 +38,7 @@ emptied name = replaced name []
 abbrev pub grown : List ℕ → List ℕ → Contents → Contents
 grown name more = changed (option_map (λ content. content ++ more)) name
 
--- the files of a list of names with bytes, in which no name stands twice
+-- the files of a list of names with bytes: of each name the first
 abbrev pub file_of : List (List ℕ × List ℕ) → Contents
 file_of [] name = None
 file_of (file ∷ files) name = if bytes_eq file.0 name then Some file.1 else file_of files name

@@ -12,7 +12,7 @@ use crate::failed::Failed;
 ///
 /// The clauses speak of three meanings: `faults` counts the faults so far, `told` is what the store
 /// tells of its files and `named` of the names that its calls were given, in order. A store that
-/// tells nothing keeps the clauses on `told` and `named` for nothing.
+/// tells nothing keeps telling nothing, and owes nothing more by the clauses on what is told.
 pub trait FileStore {
     ghost faults: { Self → ℕ };
 

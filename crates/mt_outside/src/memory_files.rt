@@ -29,16 +29,26 @@ pub struct MemoryFiles {
 impl Model for MemoryFiles {
     ghost Value = { Stored };
 
-    ghost view = { λ s. record { files = s.shelf; names = s.names.list;
-        fails = s.plan.fails.items; next = s.plan.next; faults = s.faults.count } };
+    ghost view = { λ s. record {
+      files = s.shelf;
+      names = s.names.list;
+      fails = s.plan.fails.items;
+      next = s.plan.next;
+      faults = s.faults.count;
+    } };
 }
 
 impl MemoryFiles {
     /// A store with no files. `fails` holds the numbers, from 0, of the calls of `FileStore` that
     /// are to fail.
     pub fn new(alloc: Global, fails: Vec<u64>) -> MemoryFiles
-        ensures { result ≡ record { files = []; names = []; fails = fails.items;
-            next = 0; faults = 0 } }
+        ensures { result ≡ record {
+          files = [];
+          names = [];
+          fails = fails.items;
+          next = 0;
+          faults = 0;
+        } }
     {
         MemoryFiles {
             shelf: Shelf::new(alloc),
@@ -68,8 +78,11 @@ impl MemoryFiles {
 
     /// Begins a call of `FileStore`, which may be one that is to fail.
     fn begin(&mut self, name: &str) -> Result<(), Failed>
-        ensures same { self.new ≡ record self.old { names = self.old.names ++ name.now ∷ [];
-            next = min (self.old.next + 1) (2 ^ 64 - 1); faults = self.new.faults } }
+        ensures same { self.new ≡ record self.old {
+          names = self.old.names ++ name.now ∷ [];
+          next = min (self.old.next + 1) (2 ^ 64 - 1);
+          faults = self.new.faults;
+        } }
         ensures answer { is_err result ≡ fails_at self.old.fails self.old.next }
         ensures counts { OnOk result (self.new.faults ≡ self.old.faults) }
         ensures later { self.old.faults ≤ self.new.faults }

@@ -24,8 +24,12 @@ pub struct MemorySink {
 impl Model for MemorySink {
     ghost Value = { Taken };
 
-    ghost view = { λ s. record { bytes = s.bytes.items; fails = s.plan.fails.items;
-        next = s.plan.next; faults = s.faults.count } };
+    ghost view = { λ s. record {
+      bytes = s.bytes.items;
+      fails = s.plan.fails.items;
+      next = s.plan.next;
+      faults = s.faults.count;
+    } };
 }
 
 impl MemorySink {

@@ -30,7 +30,9 @@ pub struct RealFiles<'a, R: Files> {
 }
 
 impl<'a, R: Files> RealFiles<'a, R> {
-    pub fn new(rt: &'a R, alloc: Global) -> RealFiles<'a, R> {
+    pub fn new(rt: &'a R, alloc: Global) -> RealFiles<'a, R>
+        ensures { ⟦<RealFiles<'a, R> as FileStore>⟧.faults result ≡ 0 }
+    {
         RealFiles {
             rt,
             alloc,

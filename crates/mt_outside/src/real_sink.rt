@@ -16,7 +16,9 @@ pub struct RealSink<'a, R> {
 }
 
 impl<'a, R: Print> RealSink<'a, R> {
-    pub fn new(rt: &'a R) -> RealSink<'a, R> {
+    pub fn new(rt: &'a R) -> RealSink<'a, R>
+        ensures { ⟦<RealSink<'a, R> as Sink>⟧.faults result ≡ 0 }
+    {
         RealSink {
             rt,
             faults: Faults::new(),

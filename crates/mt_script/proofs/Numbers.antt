@@ -1,5 +1,5 @@
 -- Words that spell a number.
-use Rattle.std.proofs.Common.{◌≡◌, ◌≢◌, ℕ, ◌<◌, ◌≤◌, ◌^◌, true, List, [], ◌∷◌, length, get_or, Option, Result, Ok, Err, MatchOption, refl, sym, ap, subst, ◌∙◌, inl, inr, arith}
+use Rattle.std.proofs.Common.{◌≡◌, ◌≢◌, ℕ, ◌<◌, ◌≤◌, ◌^◌, true, List, [], ◌∷◌, length, get_or, Option, Result, Ok, Err, refl, sym, ap, subst, ◌∙◌, inl, inr, arith}
 use Rattle.std.proofs.lemmas.Bool.{cases_lt}
 use Rattle.std.proofs.lemmas.Bool.Decides.{nat_tests}
 use Rattle.std.proofs.lemmas.Fmt.{decimal_digit, first_decimal, decimal_is_IsNumeral, decimal-digits_value, parse-decimal, IsAscii-decimal}
@@ -9,7 +9,7 @@ use Rattle.std.specs.Fmt.{decimal}
 use Rattle.std.specs.Result.{result_ok}
 use Rattle.std.specs.Str.{IsUtf8}
 use Rattle.std.specs.Str.Parse.{ParsesUnsigned, AllDigits, digits_value}
-use Rattle.mt_script.specs.Reading.{begins_as_number}
+use Rattle.mt_script.specs.Reading.{begins_as_number, IsNumberOf}
 
 own : IsNumeralModel (AllDigits 10) (digits_value 10)
 own = numerals_by_value (AllDigits 10) tells_digits
@@ -61,11 +61,12 @@ number_reads word id small is =
     }
 
 -- what parsing answers is what the word spells
-pub number_parsed : {E : Type 0} (word text : List ℕ) (r : Result ℕ E) (o : Option ℕ) → text ≡ word → begins_as_number word ≡ true → ParsesUnsigned 32 10 text r → o ≡ result_ok r
-    → MatchOption o ((id : ℕ) → id < 2 ^ 32 → word ≢ decimal id) (λ id. word ≡ decimal id)
+pub number_parsed : {E : Type 0} (word text : List ℕ) (r : Result ℕ E) (o : Option ℕ) → text ≡ word → begins_as_number word ≡ true
+    → ParsesUnsigned 32 10 text r → o ≡ result_ok r → IsNumberOf word o
 number_parsed {E} word text (Ok n) o same begins parses is =
-    let P : Option ℕ → Type 0 = λ x. MatchOption x ((id : ℕ) → id < 2 ^ 32 → word ≢ decimal id) (λ id. word ≡ decimal id) in
-    subst P (sym is) (number_spelled {E = E} word n (Ok n) begins (subst (λ t. ParsesUnsigned {E = E} 32 10 t (Ok n)) same parses) refl)
+    let read = subst (λ t. ParsesUnsigned {E = E} 32 10 t (Ok n)) same parses in
+    subst (IsNumberOf word) (sym is) (number_spelled {E = E} word n (Ok n) begins read refl)
 number_parsed {E} word text (Err e) o same begins parses is =
-    let P : Option ℕ → Type 0 = λ x. MatchOption x ((id : ℕ) → id < 2 ^ 32 → word ≢ decimal id) (λ id. word ≡ decimal id) in
-    subst P (sym is) (λ id small spells. let r : Result ℕ E = Err e in let reads : r ≡ Ok id = parse-decimal {E = E} 32 id text r small (omega arith) (same ∙ spells) parses in cc)
+    let r : Result ℕ E = Err e in
+    subst (IsNumberOf word) (sym is) (λ id small spells.
+    let reads : r ≡ Ok id = parse-decimal {E = E} 32 id text r small (omega arith) (same ∙ spells) parses in cc)

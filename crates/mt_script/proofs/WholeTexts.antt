@@ -2,7 +2,8 @@
 use Rattle.std.proofs.Common.{◌≡◌, ℕ, suc, ◌<◌, ◌≤◌, ◌+◌, ◌⊎◌, inl, inr, List, [], ◌∷◌, ◌++◌, length, map, Option, Some, None, Result, Ok, Err, refl, sym, ap, subst, ◌∙◌, arith}
 use Rattle.std.proofs.lemmas.Bool.{cases_lt}
 use Rattle.std.proofs.lemmas.List.{length-map}
-use Rattle.std.proofs.lemmas.List.Elements.{All-head, All-tail, All-weaker, All-map}
+use Rattle.mt_script.proofs.ScriptLines.{length-Do}
+use Rattle.std.proofs.lemmas.List.Elements.{All-from_recursion, All-head, All-tail, All-weaker, All-map}
 use Rattle.std.specs.List.{All, AllByRecursion}
 use Rattle.mt_script.specs.declared.event.Event.{Event}
 use Rattle.mt_script.specs.declared.event.Line.{Line}
@@ -182,3 +183,40 @@ written events few h =
     let lines = lines_of-all_ended (map spelled events) lacks in
     let long : length (lines_of (ended (map spelled events))) ≤ line_limit = omega (arith, ap length lines, length-map events spelled) in
     (long, map Some events, subst (λ ls. Do ls (map Some events)) (sym lines) (do_events events h), refl)
+
+-- ---- what a script holds
+
+held : (lines : List (List ℕ)) (does : List (Option Event)) (number : ℕ) → Do lines does → AllByRecursion (λ line. IsEvent line.event) (numbered number does)
+held [] [] number h = tt
+held [] (d ∷ does) number h = absurd h
+held (line ∷ lines) [] number h = absurd h
+held (line ∷ lines) (None ∷ does) number h = held lines does (number + 1) h.1
+held (line ∷ lines) (Some event ∷ does) number h = (h.0.0, held lines does (number + 1) h.1)
+
+counted : (does : List (Option Event)) (number most : ℕ) → number + length does ≤ most + 1 → 1 ≤ number
+    → AllByRecursion (λ line. (1 ≤ line.number) × (line.number ≤ most)) (numbered number does)
+counted [] number most h low = tt
+counted (None ∷ does) number most h low = counted does (number + 1) most (omega arith) (omega arith)
+counted (Some event ∷ does) number most h low = ((low, omega arith), counted does (number + 1) most (omega arith) (omega arith))
+
+length-numbered : (does : List (Option Event)) (number : ℕ) → length (numbered number does) ≤ length does
+length-numbered [] number = omega arith
+length-numbered (None ∷ does) number = let ih = length-numbered does (number + 1) in omega arith
+length-numbered (Some event ∷ does) number = let ih = length-numbered does (number + 1) in omega arith
+
+-- each event of a script can be spelled
+pub events_hold : (text : List ℕ) (script : List Line) → ReadsAs text (Ok script) → All (λ line. IsEvent line.event) script
+events_hold text script h =
+    let each = All-from_recursion (λ line. IsEvent line.event) (numbered 1 h.1) (held (lines_of text) h.1 1 h.2) in
+    subst (λ lines. All (λ (line : Line). IsEvent line.event) lines) (sym h.3) each
+
+-- a script has no more events than a text has lines
+pub few_events : (text : List ℕ) (script : List Line) → ReadsAs text (Ok script) → length script ≤ line_limit
+few_events text script h = omega (arith, h.0, length-Do (lines_of text) h.1 h.2, length-numbered h.1 1, ap length h.3)
+
+-- and their numbers are those of lines
+pub numbers_hold : (text : List ℕ) (script : List Line) → ReadsAs text (Ok script) → All (λ line. (1 ≤ line.number) × (line.number ≤ line_limit)) script
+numbers_hold text script h =
+    let long : 1 + length h.1 ≤ line_limit + 1 = omega (arith, h.0, length-Do (lines_of text) h.1 h.2) in
+    let each = All-from_recursion (λ line. (1 ≤ line.number) × (line.number ≤ line_limit)) (numbered 1 h.1) (counted h.1 1 line_limit long (omega arith)) in
+    subst (λ lines. All (λ (line : Line). (1 ≤ line.number) × (line.number ≤ line_limit)) lines) (sym h.3) each

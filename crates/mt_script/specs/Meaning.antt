@@ -31,7 +31,8 @@ abbrev pub Means : List ℕ → Meaning → Type 0
 Means line (Does None) = IsSkipped line
 Means line (Does (Some event)) = IsEvent event × (line ≡ spelled event)
 Means line UnknownCommand = ¬ IsSkipped line × ¬ Contains commands (first_word line)
-Means line WrongWords = Contains commands (first_word line) × ((event : Event) → IsEvent event → line ≢ spelled event)
+Means line WrongWords =
+    Contains commands (first_word line) × ((event : Event) → IsEvent event → line ≢ spelled event)
 
 -- each line is good, and does what stands at its place
 abbrev pub Do : List (List ℕ) → List (Option Event) → Type 0
@@ -44,7 +45,8 @@ Do (line ∷ lines) [] = ⊥
 abbrev pub numbered : ℕ → List (Option Event) → List Line
 numbered number [] = []
 numbered number (None ∷ rest) = numbered (number + 1) rest
-numbered number (Some event ∷ rest) = record { event = event; number = number } ∷ numbered (number + 1) rest
+numbered number (Some event ∷ rest) =
+    record { event = event; number = number } ∷ numbered (number + 1) rest
 
 -- the first line that is not good has this number and this meaning
 pub record FirstFault (lines : List (List ℕ)) (number : ℕ) (fault : Meaning) : Type 0 where
@@ -61,14 +63,21 @@ pub record FirstFault (lines : List (List ℕ)) (number : ℕ) (fault : Meaning)
 abbrev pub line_limit : ℕ
 line_limit = 4000000
 
+-- a text has no more lines than that
+abbrev pub IsShort : List ℕ → Type 0
+IsShort text = length (lines_of text) ≤ line_limit
+
 -- What a whole text is: its events in order, or its first fault. That it has too many lines is
 -- looked at before its lines are.
 abbrev pub ReadsAs : List ℕ → Result (List Line) ScriptRefusal → Type 0
 ReadsAs text (Ok script) =
-    (length (lines_of text) ≤ line_limit) × (does : List (Option Event)) × Do (lines_of text) does × (script ≡ numbered 1 does)
-ReadsAs text (Err (BadCommand number)) = (length (lines_of text) ≤ line_limit) × FirstFault (lines_of text) number UnknownCommand
-ReadsAs text (Err (BadWords number)) = (length (lines_of text) ≤ line_limit) × FirstFault (lines_of text) number WrongWords
-ReadsAs text (Err (TooManyLines limit)) = (limit ≡ line_limit) × (line_limit < length (lines_of text))
+    IsShort text × (does : List (Option Event)) × Do (lines_of text) does × (script ≡ numbered 1 does)
+ReadsAs text (Err (BadCommand number)) =
+    IsShort text × FirstFault (lines_of text) number UnknownCommand
+ReadsAs text (Err (BadWords number)) =
+    IsShort text × FirstFault (lines_of text) number WrongWords
+ReadsAs text (Err (TooManyLines limit)) =
+    (limit ≡ line_limit) × (line_limit < length (lines_of text))
 ReadsAs text (Err NoMemory) = ⊥
 
 -- what reading answered is what the text is, where memory sufficed

@@ -1,7 +1,8 @@
 -- The steps of reading: a text cut in two, the words of a line, and what each step answers.
-use Rattle.std.specs.Prelude.{◌≡◌, ◌≢◌, ℕ, ◌==◌, ◌&&◌, ◌||◌, codes, Bool, false, not, nat_le, length, List, [], ◌∷◌, ◌++◌, Option, Some, None, Result, Ok, Err}
+use Rattle.std.specs.Prelude.{◌≡◌, ◌≢◌, ℕ, ◌<◌, ◌^◌, ◌==◌, ◌&&◌, ◌||◌, codes, Bool, false, not, nat_le, length, List, [], ◌∷◌, ◌++◌, Option, Some, None, Result, Ok, Err}
 use Rattle.std.specs.List.{slice_split, list_all}
 use Rattle.std.specs.Borrow.{Bor}
+use Rattle.std.specs.Fmt.{decimal}
 use Rattle.hex.specs.declared.error.FromHexError.{FromHexError}
 use Rattle.hex.specs.declared.error.FromHexError.TheVariants.{InvalidHexCharacter, OddLength, InvalidStringLength, OutOfMemory}
 use Rattle.mt_script.specs.declared.event.Event.{Event}
@@ -40,17 +41,42 @@ command_name Open = codes "open"
 command_name Send = codes "send"
 command_name Main = codes "main"
 
+-- a word is the name of the value, or of none
+abbrev pub IsNameOf : {A : Type 0} → (A → List ℕ) → List ℕ → Option A → Type 0
+IsNameOf name word None = (value : _) → word ≢ name value
+IsNameOf name word (Some value) = word ≡ name value
+
+-- a word is the number below 2 ^ 32 as it is spelled, or it is none
+abbrev pub IsNumberOf : List ℕ → Option ℕ → Type 0
+IsNumberOf word None = (id : ℕ) → id < 2 ^ 32 → word ≢ decimal id
+IsNumberOf word (Some id) = word ≡ decimal id
+
+-- One word was taken, and it is the name of the value; or it is of none, or there is no word.
+abbrev pub TakesName : {A : Type 0} → (A → List ℕ) → List (List ℕ) → List (List ℕ) → Option A
+    → Type 0
+TakesName name old new None = (value : _) (rest : List (List ℕ)) → old ≢ name value ∷ rest
+TakesName name old new (Some value) = old ≡ name value ∷ new
+
+-- the next word was taken, which has no blank, or there is none
+abbrev pub TakesWord : List (List ℕ) → List (List ℕ) → Option (Bor (List ℕ)) → Type 0
+TakesWord old new None = old ≡ []
+TakesWord old new (Some word) = (old ≡ word.now ∷ new) × Lacks 32 word.now
+
 -- One word was taken, and the value is what it spells; or it spells none, or there is no word.
-abbrev pub Takes : {A : Type 0} → (A → Type 0) → (A → List ℕ) → List (List ℕ) → List (List ℕ) → Result A LineFault → Type 0
+abbrev pub Takes : {A : Type 0} → (A → Type 0) → (A → List ℕ) → List (List ℕ) → List (List ℕ)
+    → Result A LineFault → Type 0
 Takes Is spelling old new (Ok value) = Is value × (old ≡ spelling value ∷ new)
-Takes Is spelling old new (Err fault.BadWords) = (value : _) (rest : List (List ℕ)) → Is value → old ≢ spelling value ∷ rest
+Takes Is spelling old new (Err fault.BadWords) =
+    (value : _) (rest : List (List ℕ)) → Is value → old ≢ spelling value ∷ rest
 Takes Is spelling old new (Err fault.BadCommand) = ⊥
 Takes Is spelling old new (Err fault.NoMemory) = Unit {0}
 
 -- The words behind a command, all of them, are those of the event; or they are those of none.
 abbrev pub Completes : List ℕ → List (List ℕ) → Result Event LineFault → Type 0
-Completes command words (Ok event) = (command ∷ words ≡ words_of event) × (Lacks 10 (spelled event) → IsEvent event)
-Completes command words (Err fault.BadWords) = (event : Event) → IsEvent event → command ∷ words ≢ words_of event
+Completes command words (Ok event) =
+    (command ∷ words ≡ words_of event) × (Lacks 10 (spelled event) → IsEvent event)
+Completes command words (Err fault.BadWords) =
+    (event : Event) → IsEvent event → command ∷ words ≢ words_of event
 Completes command words (Err fault.BadCommand) = ⊥
 Completes command words (Err fault.NoMemory) = Unit {0}
 
@@ -89,7 +115,8 @@ begins_as_number (first ∷ []) = nat_le 48 first && nat_le first 57
 begins_as_number (first ∷ next ∷ rest) = nat_le 49 first && nat_le first 57
 
 -- a word spells the value, or it spells none
-abbrev pub Spells : {A : Type 0} → (A → Type 0) → (A → List ℕ) → List ℕ → Result A LineFault → Type 0
+abbrev pub Spells : {A : Type 0} → (A → Type 0) → (A → List ℕ) → List ℕ → Result A LineFault
+    → Type 0
 Spells Is spelling word (Ok value) = Is value × (word ≡ spelling value)
 Spells Is spelling word (Err fault.BadWords) = (value : _) → Is value → word ≢ spelling value
 Spells Is spelling word (Err fault.BadCommand) = ⊥
@@ -97,7 +124,8 @@ Spells Is spelling word (Err fault.NoMemory) = Unit {0}
 
 -- What a line adds to the events before it; a refusal names its number.
 abbrev pub AddsLine : List Line → List Line → List ℕ → ℕ → Result (Unit {0}) ScriptRefusal → Type 0
-AddsLine old new line number (Ok done) = (does : Option Event) × Means line (Does does) × (new ≡ old ++ numbered number (does ∷ []))
+AddsLine old new line number (Ok done) =
+    (does : Option Event) × Means line (Does does) × (new ≡ old ++ numbered number (does ∷ []))
 AddsLine old new line number (Err (BadCommand n)) = (n ≡ number) × Means line UnknownCommand
 AddsLine old new line number (Err (BadWords n)) = (n ≡ number) × Means line WrongWords
 AddsLine old new line number (Err (TooManyLines limit)) = ⊥

@@ -12,10 +12,13 @@ ghost use Rattle.mt_script.specs.Meaning.{Meaning, Means, ReadsAs, line_limit, n
 /// more byte 10; no line has a byte 10. Lines without a byte 10 are the lines of the text that
 /// they make, whether or not the last one, where it is not empty, has a byte 10 behind it.
 pub fn cut_into_lines()
-    ensures whole { (text : List ℕ) → (ended (lines_of text) ≡ text) ⊎ (ended (lines_of text) ≡ text ++ 10 ∷ []) }
+    ensures whole { (text : List ℕ)
+        → (ended (lines_of text) ≡ text) ⊎ (ended (lines_of text) ≡ text ++ 10 ∷ []) }
     ensures no_end { (text : List ℕ) → All (Lacks 10) (lines_of text) }
     ensures closed { (lines : List (List ℕ)) → All (Lacks 10) lines → lines_of (ended lines) ≡ lines }
-    ensures unclosed { (lines : List (List ℕ)) (last : List ℕ) → All (Lacks 10) lines → Lacks 10 last → 0 < length last → lines_of (ended lines ++ last) ≡ lines ++ last ∷ [] }
+    ensures unclosed { (lines : List (List ℕ)) (last : List ℕ)
+        → All (Lacks 10) lines → Lacks 10 last → 0 < length last
+        → lines_of (ended lines ++ last) ≡ lines ++ last ∷ [] }
 {}
 
 /// Each event has one spelling, which no other event has and which is a line.
@@ -33,7 +36,23 @@ pub fn one_meaning()
 /// Each text is exactly one script, or has exactly one refusal; and each list of events, if not
 /// too long, has a text.
 pub fn one_answer()
-    ensures some { (text : List ℕ) → IsBytes text → (answer : Result (List Line) ScriptRefusal) × ReadsAs text answer }
-    ensures one { (text : List ℕ) (a b : Result (List Line) ScriptRefusal) → ReadsAs text a → ReadsAs text b → a ≡ b }
-    ensures written { (events : List Event) → length events ≤ line_limit → All IsEvent events → ReadsAs (ended (map spelled events)) (Ok (numbered 1 (map Some events))) }
+    ensures some { (text : List ℕ)
+        → IsBytes text → (answer : Result (List Line) ScriptRefusal) × ReadsAs text answer }
+    ensures one { (text : List ℕ) (a b : Result (List Line) ScriptRefusal)
+        → ReadsAs text a → ReadsAs text b → a ≡ b }
+    ensures written { (events : List Event)
+        → length events ≤ line_limit → All IsEvent events
+        → ReadsAs (ended (map spelled events)) (Ok (numbered 1 (map Some events))) }
+{}
+
+/// The events of a script can be spelled, there are no more of them than a text may have lines,
+/// and their numbers are those of lines.
+pub fn events_read()
+    ensures events { (text : List ℕ) (script : List Line)
+        → ReadsAs text (Ok script) → All (λ line. IsEvent line.event) script }
+    ensures few { (text : List ℕ) (script : List Line)
+        → ReadsAs text (Ok script) → length script ≤ line_limit }
+    ensures numbers { (text : List ℕ) (script : List Line)
+        → ReadsAs text (Ok script)
+        → All (λ line. (1 ≤ line.number) × (line.number ≤ line_limit)) script }
 {}

@@ -2,7 +2,7 @@
 
 ghost use Rattle.std.specs.Prelude.{◌≡◌, ◌≤◌, length};
 ghost use Rattle.mt_script.specs.Lines.{lines_of};
-ghost use Rattle.mt_script.specs.Meaning.{Reads, line_limit};
+ghost use Rattle.mt_script.specs.Meaning.{IsShort, Reads, line_limit};
 
 use crate::cut::cut_line;
 use crate::event::{Event, Line, ScriptRefusal};
@@ -11,7 +11,7 @@ use std::alloc::Global;
 use std::marker::Model;
 
 /// The most lines that a script has.
-const LINE_LIMIT: u64 = 4_000_000;
+pub const LINE_LIMIT: u64 = 4_000_000;
 
 /// The lines of a script that have an event, in order.
 #[derive(Drop)]
@@ -51,7 +51,8 @@ impl Script {
 
     /// The `i`th line that has an event, and its number in the text; lines are counted from 0 here.
     pub fn event(&self, i: usize) -> Option<(&Event, u64)>
-        ensures { option_map (λ line. record { event = line.0.now; number = line.1 }) result ≡ slice_get self.now i }
+        ensures { option_map (λ line. record { event = line.0.now; number = line.1 }) result
+            ≡ slice_get self.now i }
     {
         let line = self.kept.get(i)?;
         Some((&line.event, line.number))
@@ -102,8 +103,9 @@ pub fn read_script(alloc: Global, bytes: &[u8]) -> Result<Script, ScriptRefusal>
     read_lines(alloc, bytes)
 }
 
-/// How many lines a text has.
-fn count_lines(text: &[u8]) -> u64
+/// How many lines a text has. A line ends at each byte 10, and bytes that no byte 10 follows are one
+/// more line.
+pub fn count_lines(text: &[u8]) -> u64
     ensures { result ≡ length (lines_of text.now) }
 {
     let mut count = 0;
@@ -118,7 +120,7 @@ fn count_lines(text: &[u8]) -> u64
 
 /// The script of a text that has not too many lines.
 fn read_lines(alloc: Global, text: &[u8]) -> Result<Script, ScriptRefusal>
-    requires { length (lines_of text.now) ≤ line_limit }
+    requires { IsShort text.now }
     ensures { Reads text.now result }
 {
     let mut script = Script::new(alloc);

@@ -35,6 +35,7 @@ fn reads_each_kind(rt: HostRuntime) -> Result<(), Fail> {
     one_spelling();
     one_meaning();
     one_answer();
+    events_read();
     Ok(())
 }
 
@@ -153,6 +154,38 @@ fn refuses_the_first_bad_line(rt: HostRuntime) -> Result<(), Fail> {
             Ok(_) => assert!(rt; false, "a bad line is read"),
             Err(refusal) => assert_eq!(rt; refusal, wanted),
         }
+    }
+    Ok(())
+}
+
+#[test]
+fn counts_lines_first(rt: HostRuntime) -> Result<(), Fail> {
+    let text = vec![in rt.alloc(); b'\n'; 4_000_001]?;
+    assert!(rt; text.len() == 4_000_001);
+    assert!(rt; read_script(rt.alloc(), &text[1..])?.is_empty());
+    match read_script(rt.alloc(), &text) {
+        Ok(_) => assert!(rt; false, "too many lines are read"),
+        Err(refusal) => assert_eq!(rt; refusal, ScriptRefusal::TooManyLines { limit: 4_000_000 }),
+    }
+    Ok(())
+}
+
+#[test]
+fn cuts_lines_and_reads_hex(rt: HostRuntime) -> Result<(), Fail> {
+    assert_eq!(rt; count_lines(b"a\n\nb"), 3);
+    assert_eq!(rt; cut_line(b"a\n\nb"), (b"a".as_slice(), b"\nb".as_slice()));
+    assert_eq!(rt; cut_line(b"b"), (b"b".as_slice(), b"".as_slice()));
+    let rows: [(&[u8], Option<&[u8]>); 6] = [
+        (b"-", Some(b"")),
+        (b"00ff", Some(b"\x00\xff")),
+        (b"0", None),
+        (b"FF", None),
+        (b"", None),
+        (b"00 ", None),
+    ];
+    for (word, bytes) in rows {
+        let read = hex_bytes(rt.alloc(), word)?;
+        assert_eq!(rt; read.as_ref().map(|text| text.bytes()), bytes);
     }
     Ok(())
 }

@@ -30,10 +30,10 @@ impl Text {
     }
 
     /// A text of these bytes, which are taken and not copied.
-    pub fn from_vec(bytes: Vec<u8>) -> Text
-        ensures { result ≡ bytes.items }
+    pub fn from_vec(kept: Vec<u8>) -> Text
+        ensures { result ≡ kept.items }
     {
-        Text { kept: bytes }
+        Text { kept }
     }
 
     /// The bytes.

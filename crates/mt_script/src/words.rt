@@ -6,7 +6,7 @@ ghost use Rattle.mt_script.specs.Lines.{Lacks};
 ghost use Rattle.mt_script.specs.Spelling.{side_name, hex_text, IsBytes, IsWord};
 ghost use Rattle.mt_script.specs.declared.values.Command.{Command};
 ghost use Rattle.mt_script.specs.declared.fault.LineFault.TheVariants as fault;
-ghost use Rattle.mt_script.specs.Reading.{Takes, command_name, words_left, split_at_blanks};
+ghost use Rattle.mt_script.specs.Reading.{Takes, TakesName, TakesWord, command_name, words_left, split_at_blanks};
 
 use crate::cut::cut_at;
 use crate::fault::LineFault;
@@ -31,7 +31,7 @@ impl<'a> Words<'a> {
 
     /// The next word, with no blank in it.
     pub(crate) fn word(&mut self) -> Option<&'a [u8]>
-        ensures { MatchOption result (words_left self.old ≡ []) (λ word. (words_left self.old ≡ word.now ∷ words_left self.new) × Lacks 32 word.now) }
+        ensures { TakesWord (words_left self.old) (words_left self.new) result }
     {
         let (word, rest) = cut_at(b' ', self.rest?);
         self.rest = rest;
@@ -40,7 +40,7 @@ impl<'a> Words<'a> {
 
     /// A command.
     pub(crate) fn command(&mut self) -> Option<Command>
-        ensures { MatchOption result ((command : Command) (rest : List (List ℕ)) → words_left self.old ≢ command_name command ∷ rest) (λ command. words_left self.old ≡ command_name command ∷ words_left self.new) }
+        ensures { TakesName command_name (words_left self.old) (words_left self.new) result }
     {
         match self.word() {
             Some(word) => command_of(word),

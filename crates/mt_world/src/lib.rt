@@ -19,3 +19,6 @@ pub use laws::{net_is_safe, plays_safely, stream_is_read};
 pub use mt_script::{Event, ScriptRefusal, Text};
 pub use refusal::{OpenRefusal, Refused, SendRefusal, StepRefusal};
 pub use world::World;
+
+#[cfg(test)]
+mod tests;

@@ -1,0 +1,4 @@
+pub mod Elements
+pub mod RunsView
+pub mod Longest
+pub mod Numbers

@@ -1,0 +1,4 @@
+pub mod CodedBytes
+pub mod CodedView
+pub mod Written
+pub mod Numbers

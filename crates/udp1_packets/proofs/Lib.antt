@@ -1,0 +1,12 @@
+pub mod States
+pub mod ZeroLemmas
+pub mod Words
+pub mod Pieces
+pub mod OpeningLemmas
+pub mod SynLemmas
+pub mod VectorLemmas
+pub mod DataLemmas
+pub mod ToldLemmas
+pub mod WholeLemmas
+pub mod Theorems
+pub mod ByteLemmas
