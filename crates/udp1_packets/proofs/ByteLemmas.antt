@@ -1,11 +1,10 @@
 -- The low byte of an opening's word.
-use Rattle.std.proofs.Common.{◌≡◌, ◌⊎◌, inl, inr, ℕ, ◌+◌, ◌%◌, ◌^◌, ◌<◌, Bool, true, false, bit_and, List, slice_index, refl, sym, ap, ◌∙◌, subst, arith}
+use Rattle.std.proofs.Common.{◌≡◌, ◌⊎◌, inl, inr, ℕ, ◌+◌, ◌%◌, Bool, true, false, bit_and, List, slice_index, sym, ap, ◌∙◌, arith}
 use Rattle.std.specs.Option.{is_some}
 use Rattle.std.specs.Int.Bits.{and_zero_r}
 use Rattle.std.proofs.lemmas.Nat.{and_mod}
-use Rattle.mt_base.specs.Writing.{joined}
-use Rattle.udp1_packets.specs.Value.{Syn, Body, SynBody, Packet}
-use Rattle.udp1_packets.specs.Layout.{Spells, IsPacket, flags, flag_if, announced, mark_mask, fields}
+use Rattle.udp1_packets.specs.Value.{Syn, SynBody, Packet}
+use Rattle.udp1_packets.specs.Layout.{Spells, flags, flag_if, announced, mark_mask}
 
 -- marks of an opening have nothing in their low byte
 low_marks : (marks : ℕ) → bit_and marks 0xE600 ≡ marks → marks % 256 ≡ 0

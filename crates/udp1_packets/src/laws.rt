@@ -19,7 +19,8 @@ pub fn one_meaning()
     ensures fault { (bytes : List ℕ) (r q : Refusal1) → Refused bytes r → Refused bytes q → r ≡ q }
     ensures one_of_both { (bytes : List ℕ) → All (λ b. b < 2 ^ 8) bytes
         → ((p : Packet) × Spells bytes p) ⊎ ((r : Refusal1) × Refused bytes r) }
-    ensures never_both { (bytes : List ℕ) (p : Packet) (r : Refusal1) → Spells bytes p → Refused bytes r → ⊥ }
+    ensures never_both { (bytes : List ℕ) (p : Packet) (r : Refusal1)
+        → Spells bytes p → Refused bytes r → ⊥ }
 {}
 
 /// The eighth byte of an opening is 0x01 or 0x05, so bytes with another there open nothing.

@@ -10,6 +10,7 @@
 
 mod flags;
 mod laws;
+mod opening;
 mod packet;
 mod read;
 mod write;

@@ -65,10 +65,25 @@ fn marks_with(flags: u16) -> Option<u16> {
 #[test]
 fn reads_an_opening(rt: HostRuntime) {
     let bytes: [u8; 1232] = opening(0x0001, 1232, 1232, &[]);
-    assert!(rt; matches!(
-        read1(&bytes),
-        Ok(Packet1 { ack: 0xffff_ffff, window: 64, marks: 0, body: Body1::Syn(Syn1 { answer: false, initial: 1, up: 1232, down: 1232, correlation: None, extension: None, padding: 1216 }) })
-    ));
+    assert!(rt;
+        matches!(
+            read1(&bytes),
+            Ok(Packet1 {
+                ack: 0xffff_ffff,
+                window: 64,
+                marks: 0,
+                body: Body1::Syn(Syn1 {
+                    answer: false,
+                    initial: 1,
+                    up: 1232,
+                    down: 1232,
+                    correlation: None,
+                    extension: None,
+                    padding: 1216,
+                }),
+            })
+        )
+    );
     assert!(rt; is_kept(&bytes));
 }
 
@@ -77,10 +92,29 @@ fn reads_an_answer(rt: HostRuntime) {
     let bytes: [u8; 1232] = filled(&[
         0, 0, 0, 1, 0, 0x40, 0x10, 5, 0, 0, 0, 1, 4, 0xd0, 4, 0xd0, 0, 1, 1, 1,
     ]);
-    assert!(rt; matches!(
-        read1(&bytes),
-        Ok(Packet1 { ack: 1, window: 64, marks: 0, body: Body1::Syn(Syn1 { answer: true, initial: 1, up: 1232, down: 1232, correlation: None, extension: Some(Extension { flags: 1, version: 0x0101, hash: None }), padding: 1212 }) })
-    ));
+    assert!(rt;
+        matches!(
+            read1(&bytes),
+            Ok(Packet1 {
+                ack: 1,
+                window: 64,
+                marks: 0,
+                body: Body1::Syn(Syn1 {
+                    answer: true,
+                    initial: 1,
+                    up: 1232,
+                    down: 1232,
+                    correlation: None,
+                    extension: Some(Extension {
+                        flags: 1,
+                        version: 0x0101,
+                        hash: None
+                    }),
+                    padding: 1212,
+                }),
+            })
+        )
+    );
     assert!(rt; is_kept(&bytes));
 }
 
@@ -106,13 +140,18 @@ fn cuts_an_opening_at_each_field(rt: HostRuntime) {
     rest[35] = 1;
     let bytes: [u8; 90] = opening(0x1801, 1132, 1232, &rest);
     assert!(rt; is_kept(&bytes));
-    assert!(rt; OPENING_FIELDS.iter().all(|(at, need)| *at < 90 && *need < 90 && is_cut(&bytes, *at, *need)));
+    assert!(rt;
+        OPENING_FIELDS.iter().all(|(at, need)| *at < 90 && *need < 90 && is_cut(&bytes, *at, *need))
+    );
 }
 
 #[test]
 fn refuses_a_cut_hash(rt: HostRuntime) {
     let bytes: [u8; 51] = opening(0x1001, 1232, 1232, &[0, 1, 1, 1]);
-    assert_eq!(rt; fault(&bytes), Some(Refusal1::Short(Short { at: 20, need: 32 })));
+    assert_eq!(rt;
+        fault(&bytes),
+        Some(Refusal1::Short(Short { at: 20, need: 32 }))
+    );
 }
 
 #[test]
@@ -200,18 +239,51 @@ fn keeps_marks(rt: HostRuntime) {
 #[test]
 fn reads_acknowledgements(rt: HostRuntime) {
     let one = [0, 0, 0, 2, 0, 0x40, 0, 4, 0, 1, 2, 0];
-    assert!(rt; matches!(
-        read1(&one),
-        Ok(Packet1 { ack: 2, window: 64, marks: 0, body: Body1::Bare { vector: Some([2]), aoa: None, rest: [] } })
-    ));
+    assert!(rt;
+        matches!(
+            read1(&one),
+            Ok(Packet1 {
+                ack: 2,
+                window: 64,
+                marks: 0,
+                body: Body1::Bare {
+                    vector: Some([2]),
+                    aoa: None,
+                    rest: []
+                },
+            })
+        )
+    );
     assert!(rt; is_kept(&one));
     let none = [0, 0, 0, 1, 0, 0x40, 0, 4, 0, 1, 0, 0];
-    assert!(rt; matches!(read1(&none), Ok(Packet1 { body: Body1::Bare { vector: Some([0]), .. }, .. })));
-    let filled = [0, 0, 0, 1, 0, 0x40, 1, 4, 0, 3, 1, 0xff, 3, 7, 8, 9, 0, 0, 0, 5, 6];
-    assert!(rt; matches!(
-        read1(&filled),
-        Ok(Packet1 { body: Body1::Bare { vector: Some([1, 0xff, 3]), aoa: Some(5), rest: [6] }, .. })
-    ));
+    assert!(rt;
+        matches!(
+            read1(&none),
+            Ok(Packet1 {
+                body: Body1::Bare {
+                    vector: Some([0]),
+                    ..
+                },
+                ..
+            })
+        )
+    );
+    let filled = [
+        0, 0, 0, 1, 0, 0x40, 1, 4, 0, 3, 1, 0xff, 3, 7, 8, 9, 0, 0, 0, 5, 6,
+    ];
+    assert!(rt;
+        matches!(
+            read1(&filled),
+            Ok(Packet1 {
+                body: Body1::Bare {
+                    vector: Some([1, 0xff, 3]),
+                    aoa: Some(5),
+                    rest: [6]
+                },
+                ..
+            })
+        )
+    );
 }
 
 #[test]
@@ -223,7 +295,10 @@ fn refuses_vectors(rt: HostRuntime) {
     let unfilled = [0, 0, 0, 1, 0, 0x40, 0, 4, 0, 1, 0x43];
     assert_eq!(rt; fault(&unfilled), Some(Refusal1::BadState { at: 10 }));
     let cut = [0, 0, 0, 1, 0, 0x40, 0, 4, 0, 2, 0x43];
-    assert_eq!(rt; fault(&cut), Some(Refusal1::Short(Short { at: 10, need: 2 })));
+    assert_eq!(rt;
+        fault(&cut),
+        Some(Refusal1::Short(Short { at: 10, need: 2 }))
+    );
     let long = [0, 0, 0, 0, 0, 0x40, 0, 4, 0xff, 0xff];
     assert_eq!(rt; fault(&long), Some(Refusal1::VectorTooLong { at: 8 }));
 }
@@ -238,11 +313,26 @@ fn takes_2048_elements(rt: HostRuntime) {
 
 #[test]
 fn reads_data(rt: HostRuntime) {
-    let bytes = [0, 0, 0, 1, 0, 0x40, 2, 8, 0, 0, 0, 2, 0, 0, 0, 3, 0x41, 0x42];
-    assert!(rt; matches!(
-        read1(&bytes),
-        Ok(Packet1 { ack: 1, window: 64, marks: 0x0200, body: Body1::Data { vector: None, aoa: None, coded: 2, start: 3, bytes: [0x41, 0x42] } })
-    ));
+    let bytes = [
+        0, 0, 0, 1, 0, 0x40, 2, 8, 0, 0, 0, 2, 0, 0, 0, 3, 0x41, 0x42,
+    ];
+    assert!(rt;
+        matches!(
+            read1(&bytes),
+            Ok(Packet1 {
+                ack: 1,
+                window: 64,
+                marks: 0x0200,
+                body: Body1::Data {
+                    vector: None,
+                    aoa: None,
+                    coded: 2,
+                    start: 3,
+                    bytes: [0x41, 0x42],
+                },
+            })
+        )
+    );
     assert!(rt; is_kept(&bytes));
     assert!(rt; is_cut(&bytes, 8, 4) && is_cut(&bytes, 12, 4));
 }
@@ -255,13 +345,41 @@ const CORRECTION: [u8; 29] = [
 
 #[test]
 fn reads_forward_error_correction(rt: HostRuntime) {
-    assert!(rt; matches!(
-        read1(&CORRECTION),
-        Ok(Packet1 { marks: 0, body: Body1::Fec { vector: Some([1, 0xc1]), aoa: Some(9), coded: 2, start: 3, range: 4, index: 5, bytes: [0x41] }, .. })
-    ));
+    assert!(rt;
+        matches!(
+            read1(&CORRECTION),
+            Ok(Packet1 {
+                marks: 0,
+                body: Body1::Fec {
+                    vector: Some([1, 0xc1]),
+                    aoa: Some(9),
+                    coded: 2,
+                    start: 3,
+                    range: 4,
+                    index: 5,
+                    bytes: [0x41],
+                },
+                ..
+            })
+        )
+    );
     assert!(rt; is_kept(&CORRECTION));
-    let fields = [(0, 4), (4, 2), (6, 2), (8, 2), (10, 2), (12, 4), (16, 4), (20, 4), (24, 1), (25, 1), (26, 2)];
-    assert!(rt; fields.iter().all(|(at, need)| *at < 30 && *need < 30 && is_cut(&CORRECTION, *at, *need)));
+    let fields = [
+        (0, 4),
+        (4, 2),
+        (6, 2),
+        (8, 2),
+        (10, 2),
+        (12, 4),
+        (16, 4),
+        (20, 4),
+        (24, 1),
+        (25, 1),
+        (26, 2),
+    ];
+    assert!(rt;
+        fields.iter().all(|(at, need)| *at < 30 && *need < 30 && is_cut(&CORRECTION, *at, *need))
+    );
 }
 
 #[test]
@@ -270,10 +388,22 @@ fn stops_where_no_place_is_left(rt: HostRuntime) {
         return;
     };
     assert_eq!(rt; write1(&packet, &mut []), Err(NoRoom { at: 0, need: 4 }));
-    assert_eq!(rt; write1(&packet, &mut [0; 11]), Err(NoRoom { at: 10, need: 2 }));
-    assert_eq!(rt; write1(&packet, &mut [0; 12]), Err(NoRoom { at: 12, need: 4 }));
-    assert_eq!(rt; write1(&packet, &mut [0; 27]), Err(NoRoom { at: 26, need: 2 }));
-    assert_eq!(rt; write1(&packet, &mut [0; 28]), Err(NoRoom { at: 28, need: 1 }));
+    assert_eq!(rt;
+        write1(&packet, &mut [0; 11]),
+        Err(NoRoom { at: 10, need: 2 })
+    );
+    assert_eq!(rt;
+        write1(&packet, &mut [0; 12]),
+        Err(NoRoom { at: 12, need: 4 })
+    );
+    assert_eq!(rt;
+        write1(&packet, &mut [0; 27]),
+        Err(NoRoom { at: 26, need: 2 })
+    );
+    assert_eq!(rt;
+        write1(&packet, &mut [0; 28]),
+        Err(NoRoom { at: 28, need: 1 })
+    );
     assert_eq!(rt; write1(&packet, &mut [0; 30]), Ok(29));
 }
 
@@ -283,7 +413,10 @@ fn stops_where_zeros_have_no_place(rt: HostRuntime) {
     let Ok(packet) = read1(&bytes) else {
         return;
     };
-    assert_eq!(rt; write1(&packet, &mut [0; 1231]), Err(NoRoom { at: 16, need: 1216 }));
+    assert_eq!(rt;
+        write1(&packet, &mut [0; 1231]),
+        Err(NoRoom { at: 16, need: 1216 })
+    );
 }
 
 #[test]
