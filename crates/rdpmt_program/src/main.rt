@@ -13,12 +13,11 @@ mod print;
 mod top;
 mod words;
 
+use fault::Fault;
 use mt_outside::{RealFiles, RealSink};
+use print::tell;
 use std::process::ExitCode;
 use std::{env, io};
-
-/// The status where the words of the call find no memory.
-const NO_MEMORY: u8 = 9;
 
 /// The words after the program's name. Words that are no text are none: no command has such words.
 fn call_words(rt: &HostRuntime) -> io::Result<Vec<String>> {
@@ -30,11 +29,11 @@ fn call_words(rt: &HostRuntime) -> io::Result<Vec<String>> {
 }
 
 fn main(rt: HostRuntime) -> ExitCode {
+    let mut out = RealSink::new(&rt);
     let Ok(words) = call_words(&rt) else {
-        return ExitCode::from(NO_MEMORY);
+        return ExitCode::from(tell(&mut out, Err(Fault::NoMemory)));
     };
     let mut files = RealFiles::new(&rt, rt.alloc());
-    let mut out = RealSink::new(&rt);
     ExitCode::from(top::rdpmt(rt.alloc(), &words, &mut files, &mut out))
 }
 
