@@ -7,3 +7,6 @@ pub mod Lists
 pub mod Bytes
 pub mod Stretches
 pub mod LowPart
+pub mod Firsts
+pub mod Steps
+pub mod Masks

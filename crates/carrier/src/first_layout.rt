@@ -1,0 +1,34 @@
+//! Why bytes are no packet of the first layout.
+
+use mt_base::Short;
+
+/// Why bytes are no packet of the first layout (MS-RDPEUDP section 2.2): the first fault in the
+/// order of the fields. Places are byte offsets from the datagram's first byte.
+#[derive(Clone, Copy, Debug, PartialEq, Eq)]
+pub enum Refusal1 {
+    /// A field is cut short.
+    Short(Short),
+    /// The MTU at this place is not one of 1132 to 1232.
+    BadMtu { at: usize },
+    /// The version at this place is said to be valid, and is none that is known.
+    BadVersion { at: usize },
+    /// The state of the vector element at this place is neither received nor not received.
+    BadState { at: usize },
+    /// The vector whose size stands at this place would have more than 2,048 elements.
+    VectorTooLong { at: usize },
+    /// The flags at this place open a connection and announce what no opening carries.
+    SynWithData { at: usize },
+    /// The byte at this place pads an opening packet, and is not zero.
+    PaddingNotZero { at: usize },
+}
+
+impl From<Short> for Refusal1 {
+    ghost use Rattle.std.specs.Prelude.{◌≡◌};
+    ghost use Rattle.carrier.specs.declared.first_layout.Refusal1.TheVariants as refusal;
+
+    ghost from_gives = { λ short answer. answer ≡ refusal.Short short };
+
+    fn from(short: Short) -> Refusal1 {
+        Refusal1::Short(short)
+    }
+}

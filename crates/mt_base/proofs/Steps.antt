@@ -1,0 +1,5 @@
+-- Lemmas under names that an attribute of the code can cite.
+use Rattle.mt_base.proofs.Fill.{puts-append}
+
+-- a list of fields that is written part by part
+pub ruleset by_parts = (puts-append)

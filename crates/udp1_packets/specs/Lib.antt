@@ -1,0 +1,5 @@
+pub mod Value
+pub mod Views
+pub mod Layout
+pub mod Reading
+pub mod Faults
