@@ -1,9 +1,9 @@
 -- Parts of a packet that are read one after the other: each has fields, is read where these stand,
 -- is cut short in one of them, and does either at any bytes. Parts compose.
-use Rattle.std.proofs.Common.{◌≡◌, ◌⊎◌, inl, inr, ℕ, ◌+◌, ◌^◌, ◌<◌, Bool, true, false, List, [], ◌∷◌, ◌++◌, length, take, replicate, Option, Some, None, Result, Ok, Err, refl, sym, ap, ◌∙◌, subst, arith, append_assoc, append-nil, length-append}
+use Rattle.std.proofs.Common.{◌≡◌, ◌⊎◌, inl, inr, ℕ, ◌+◌, ◌<◌, Bool, true, false, List, [], ◌∷◌, ◌++◌, length, Option, Some, None, Result, Ok, Err, refl, sym, ap, ◌∙◌, subst, arith, append_assoc, append-nil, length-append}
 use Rattle.std.specs.Option.{is_some, IfSome}
 use Rattle.std.proofs.lemmas.Bool.{true≢false, false≢true}
-use Rattle.mt_base.specs.Reading.{Left, block, big, little}
+use Rattle.mt_base.specs.Reading.{Left}
 use Rattle.mt_base.specs.Writing.{joined}
 use Rattle.mt_base.proofs.Fill.{joined-append}
 use Rattle.mt_base.proofs.Numbers.{IsBytes}

@@ -1,16 +1,12 @@
 -- The prefix byte and the exchange of two bytes: what a datagram holds is read, and each datagram of
 -- at least eight bytes holds something or has a wrong short length.
-use Rattle.std.proofs.Common.{◌≡◌, ◌≢◌, ◌⊎◌, inl, inr, ℕ, ◌+◌, ◌-◌, ◌*◌, ◌/◌, ◌%◌, ◌^◌, ◌<◌, ◌≤◌, min, Bool, true, false, ◌&&◌, ◌||◌, cond, ltb, eqb, slice_index, List, [], ◌∷◌, ◌++◌, length, take, drop, Result, Ok, Err, refl, sym, ap, ◌∙◌, subst, arith, append-nil, length-append}
-use Rattle.std.specs.List.{All}
-use Rattle.std.proofs.lemmas.Bool.{lt-ltb, le-ltb, cases_lt, ne_eqb, eq-eqb}
-use Rattle.std.proofs.lemmas.List.{take_at, take_all, take-append-drop, length-take-le, length-drop}
+use Rattle.std.proofs.Common.{◌≡◌, ◌≢◌, inl, inr, ℕ, ◌+◌, ◌-◌, ◌*◌, ◌/◌, ◌%◌, ◌<◌, ◌≤◌, min, true, false, slice_index, List, [], ◌∷◌, ◌++◌, length, take, drop, Ok, Err, refl, sym, ap, ◌∙◌, arith, append-nil, length-append}
+use Rattle.std.proofs.lemmas.Bool.{lt-ltb, le-ltb, cases_lt, ne_eqb}
+use Rattle.std.proofs.lemmas.List.{take_at, take-append-drop, length-take-le, length-drop}
 use Rattle.std.proofs.lemmas.List.Elements.{All-cons, All-head, All-tail, All-take}
-use Rattle.mt_base.specs.Reading.{Left}
 use Rattle.mt_base.proofs.Numbers.{IsBytes}
 use Rattle.mt_base.proofs.Fronts.{left_at, byte_reads}
-use Rattle.carrier.specs.declared.second_layout.Refusal2.{Refusal2}
 use Rattle.carrier.specs.declared.second_layout.Refusal2.TheVariants as refusal
-use Rattle.udp2_packets.specs.Value.{Packet}
 use Rattle.udp2_packets.specs.Layout.{prefix, exchanged, Holds}
 use Rattle.udp2_packets.specs.Faults.{IsWrongLength}
 use Rattle.udp2_packets.specs.Reading.{◌>>=◌, end_of, is_dummy, header_at, packet_at, reading}

@@ -4,3 +4,4 @@ pub mod Pieces
 pub mod Words
 pub mod Whole
 pub mod Frames
+pub mod Theorems

@@ -1,19 +1,18 @@
 -- The parts of a packet behind its header: each is read where it stands, is cut short in one of its
 -- fields, and does either at any bytes.
-use Rattle.std.proofs.Common.{◌≡◌, ℕ, ◌+◌, ◌*◌, ◌/◌, ◌%◌, ◌^◌, ◌<◌, ◌≤◌, Bool, true, false, not, ◌&&◌, ltb, List, [], ◌∷◌, ◌++◌, length, take, replicate, Option, Some, None, Result, Ok, refl, sym, ap, ◌∙◌, subst, inl, inr, arith}
-use Rattle.std.specs.List.{All}
-use Rattle.std.specs.Option.{is_some, IfSome}
-use Rattle.std.proofs.lemmas.Bool.{true≢false, false≢true, lt-ltb, le-ltb, ltb-true, ltb-false, cases_lt}
+use Rattle.std.proofs.Common.{◌≡◌, ℕ, ◌+◌, ◌*◌, ◌/◌, ◌%◌, ◌^◌, ◌<◌, Bool, true, false, not, ◌&&◌, ltb, List, [], ◌∷◌, ◌++◌, length, take, replicate, Option, Some, None, refl, sym, ap, ◌∙◌, inl, inr, arith}
+use Rattle.std.specs.Option.{is_some}
+use Rattle.std.proofs.lemmas.Bool.{lt-ltb, le-ltb, cases_lt}
 use Rattle.std.proofs.lemmas.List.{length-replicate}
 use Rattle.byteorder.specs.Endian.{big_number, little_number, little_bytes}
 use Rattle.byteorder.specs.Numbers.{length-bytes_low_first}
-use Rattle.mt_base.specs.Reading.{Left, block, big, little}
+use Rattle.mt_base.specs.Reading.{block, big, little}
 use Rattle.mt_base.proofs.Numbers.{IsBytes}
 use Rattle.mt_base.proofs.Fields.{field_refuses, byte_law, little_law, block_law, byte_or, little_or, block_or}
 use Rattle.carrier.specs.declared.second_layout.Refusal2.TheVariants as refusal
 use Rattle.udp2_packets.specs.Value.{Ack, Stamp, Vector, Delay}
 use Rattle.udp2_packets.specs.Layout.{has, flag_if, where_some, byte_field, number_field, ack_fields, stamp_fields, vector_fields, delay_fields, IsAck, IsStamp, IsVector, IsDelay}
-use Rattle.udp2_packets.specs.Reading.{◌>>=◌, cut, where_set, byte_at, number_at, ack_at, stamp_at, stamp_where, vector_at, delay_at, ack_where, vector_where, delay_where, byte_where, number_where, Announced, announced_at}
+use Rattle.udp2_packets.specs.Reading.{cut, number_at, ack_at, stamp_at, stamp_where, vector_at, delay_at, ack_where, vector_where, delay_where, byte_where, number_where, Announced, announced_at}
 use Rattle.udp2_packets.proofs.Chains.{Part, one_part, then_part, made_part, as_part, where_part, IsWhere}
 
 -- ---- one field

@@ -1,6 +1,6 @@
 -- The packet behind its prefix byte: it is read where it stands, each fault in it is the answer, and
 -- bytes behind a header are a packet or have a fault.
-use Rattle.std.proofs.Common.{◌≡◌, ◌⊎◌, inl, inr, ℕ, ◌+◌, ◌*◌, ◌/◌, ◌%◌, ◌^◌, ◌<◌, ◌≤◌, Bool, true, false, not, ◌&&◌, cond, ltb, List, [], ◌∷◌, ◌++◌, length, Option, Some, None, Result, Ok, Err, refl, sym, ap, ◌∙◌, subst, arith, append_assoc, append-nil, length-append}
+use Rattle.std.proofs.Common.{◌≡◌, ℕ, ◌+◌, ◌*◌, ◌/◌, ◌%◌, ◌^◌, ◌<◌, ◌≤◌, Bool, true, false, not, ◌&&◌, cond, List, [], ◌∷◌, ◌++◌, length, Option, Some, None, Result, Ok, Err, refl, sym, ap, ◌∙◌, subst, arith, append_assoc, append-nil}
 use Rattle.std.specs.Option.{is_some, IfSome}
 use Rattle.std.proofs.lemmas.Bool.{true≢false, false≢true, lt-ltb}
 use Rattle.std.proofs.lemmas.List.Elements.{All-nil}
@@ -13,7 +13,7 @@ use Rattle.carrier.specs.declared.second_layout.Refusal2.TheVariants as refusal
 use Rattle.udp2_packets.specs.Value.{Ack, Vector, Telling, NoTelling, AckTelling, VectorTelling, Body, NoBody, DataBody, DummyBody, Packet}
 use Rattle.udp2_packets.specs.Layout.{ack_in, vector_in, number_in, part_in, rest_in, has, flags_for, flags, header, announced_fields, fields, text, IsPacket}
 use Rattle.udp2_packets.specs.Faults.{Cut}
-use Rattle.udp2_packets.specs.Reading.{◌>>=◌, Announced, telling, body_at, fields_at, checked, header_at, announced_at}
+use Rattle.udp2_packets.specs.Reading.{◌>>=◌, Announced, telling, body_at, fields_at, checked, header_at}
 use Rattle.udp2_packets.proofs.Chains
 use Rattle.udp2_packets.proofs.Chains.{Part, split, in_first, in_second, only_cut, cut_second, cut_behind, Decided}
 use Rattle.udp2_packets.proofs.Pieces.{fields_of, AnnouncedGood, announced_part}

@@ -1,10 +1,10 @@
 -- Why a datagram holds no packet of the second layout: the first fault in the order of the checks.
 -- Places are those before the exchange of two bytes, with the prefix byte at 0.
-use Rattle.std.specs.Prelude.{◌≡◌, ◌≢◌, ◌⊎◌, ℕ, ◌+◌, ◌*◌, ◌/◌, ◌^◌, ◌<◌, Bool, true, false, ◌&&◌, List, ◌∷◌, ◌++◌, length}
+use Rattle.std.specs.Prelude.{◌≡◌, ◌≢◌, ◌⊎◌, ℕ, ◌+◌, ◌/◌, ◌<◌, true, false, List, ◌∷◌, ◌++◌, length}
 use Rattle.mt_base.specs.Writing.{joined}
 use Rattle.carrier.specs.declared.second_layout.Refusal2.{Refusal2}
 use Rattle.carrier.specs.declared.second_layout.Refusal2.TheVariants as refusal
-use Rattle.udp2_packets.specs.Value.{Body, NoBody, Packet}
+use Rattle.udp2_packets.specs.Value.{NoBody, Packet}
 use Rattle.udp2_packets.specs.Layout.{has, header, kind, fields, text, IsPacket, exchanged, Holds}
 
 -- Bytes from this place on begin with some of these fields, and the next field is cut short.

@@ -1,5 +1,5 @@
 -- Writing a short datagram up to eight bytes.
-use Rattle.std.specs.Prelude.{◌≡◌, ℕ, ◌-◌, List, [], ◌∷◌, length, replicate, Result, Ok}
+use Rattle.std.specs.Prelude.{◌≡◌, ℕ, ◌-◌, [], ◌∷◌, length, replicate, Result, Ok}
 use Rattle.mt_base.specs.declared.errors.NoRoom.{NoRoom}
 use Rattle.mt_base.specs.Writing.{Spot, put, puts, then_put}
 use Rattle.udp2_packets.specs.Value.{Packet}

@@ -1,6 +1,6 @@
 -- The second layout (MS-RDPEUDP2 section 2.2): which datagrams spell a packet. All numbers stand
 -- with their lowest byte first.
-use Rattle.std.specs.Prelude.{◌≡◌, ℕ, ◌+◌, ◌-◌, ◌*◌, ◌^◌, ◌<◌, ◌≤◌, ◌==◌, min, Bool, true, not, List, [], ◌∷◌, ◌++◌, length, replicate, All, Option, Some, None, is_some, IfSome, if◌then◌else◌}
+use Rattle.std.specs.Prelude.{◌≡◌, ℕ, ◌+◌, ◌-◌, ◌*◌, ◌^◌, ◌<◌, ◌≤◌, ◌==◌, min, Bool, not, List, [], ◌∷◌, ◌++◌, length, replicate, All, Option, Some, None, is_some, IfSome, if◌then◌else◌}
 use Rattle.std.specs.Int.RustNames.{bit_and}
 use Rattle.byteorder.specs.Endian.{little_bytes}
 use Rattle.mt_base.specs.Writing.{joined}

@@ -1,6 +1,6 @@
 -- Reading a packet field by field: the packet, or the first fault. This is what the code's parts
 -- are proved against; what it means is said by the layout and by the faults, which it meets.
-use Rattle.std.specs.Prelude.{◌≡◌, ℕ, ◌+◌, ◌*◌, ◌/◌, ◌%◌, Bool, true, false, ◌&&◌, ◌||◌, not, List, length, take, slice_index, nat_lt, eqb, is_some, if◌then◌else◌, Option, Some, None, Result, Ok, Err}
+use Rattle.std.specs.Prelude.{◌≡◌, ℕ, ◌+◌, ◌/◌, ◌%◌, Bool, true, false, ◌&&◌, ◌||◌, not, List, length, take, slice_index, nat_lt, eqb, if◌then◌else◌, Option, Some, None, Result, Ok, Err}
 use Rattle.mt_base.specs.declared.errors.Short.{Short}
 use Rattle.mt_base.specs.Reading.{Left, block, big, little}
 use Rattle.carrier.specs.declared.second_layout.Refusal2.{Refusal2}

@@ -27,3 +27,12 @@ pub fn reading_by_layout()
     ensures packet { (datagram : List ℕ) (p : Packet) → All (λ b. b < 2 ^ 8) datagram → length datagram ≤ 1232 → (reading datagram ≡ Ok p) ↔ Spells datagram p }
     ensures fault { (datagram : List ℕ) (r : Refusal2) → All (λ b. b < 2 ^ 8) datagram → (reading datagram ≡ Err r) ↔ Refused datagram r }
 {}
+
+/// A packet of the second layout has at 7 a byte of at least 0x40. A datagram with a lower byte
+/// there, as the low byte of the flags of an opening of the first layout is (0x01, or 0x05 where it
+/// answers one), is refused for its short length.
+pub fn separation()
+    ensures high { (datagram : List ℕ) (p : Packet) → Spells datagram p → 0x40 ≤ slice_index datagram 7 }
+    ensures low { (datagram : List ℕ) → 8 ≤ length datagram → slice_index datagram 7 < 0x40 → Refused datagram (refusal.ShortLength 0) }
+    ensures apart { (datagram : List ℕ) (p : Packet) → Spells datagram p → (slice_index datagram 7 ≢ 0x01) × (slice_index datagram 7 ≢ 0x05) }
+{}

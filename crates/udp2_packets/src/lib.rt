@@ -16,7 +16,7 @@ mod read;
 mod write;
 
 pub use carrier::Refusal2;
-pub use laws::{one_meaning, reading_by_layout, written_is_read};
+pub use laws::{one_meaning, reading_by_layout, separation, written_is_read};
 pub use packet::{Ack2, Body2, DelayInfo, Packet2, Stamp2, Telling2, Vector2};
 pub use read::read2;
 

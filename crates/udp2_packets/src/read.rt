@@ -3,7 +3,9 @@
 ghost use Rattle.std.specs.Prelude.{◌≡◌, ◌+◌, ◌≤◌, ◌<◌, length, IfOk, IfErr, IsOkAnd, OnOk};
 ghost use Rattle.std.specs.Option.{option_map};
 ghost use Rattle.mt_base.specs.CursorView.{left};
-ghost use Rattle.udp2_packets.specs.Layout.{exchanged, has};
+ghost use Rattle.udp2_packets.specs.Value.{Packet};
+ghost use Rattle.udp2_packets.specs.Layout.{exchanged, has, Spells};
+ghost use Rattle.udp2_packets.specs.Faults.{Refused};
 ghost use Rattle.udp2_packets.specs.Reading.{Reads, Answers, byte_where, number_where, ack_at, ack_where, stamp_at, stamp_where, vector_at, vector_where, delay_at, delay_where, announced_at, telling, body_at, fields_at, checked, header_at, end_of, is_dummy, packet_at, reading};
 ghost use Rattle.udp2_packets.specs.Views.{ack_of, stamp_of, vector_of, telling_of, delay_of, body_of, packet_of, announced_of};
 
@@ -300,22 +302,39 @@ fn unexchanged<'a>(datagram: &[u8], scratch: &'a mut [u8; 1232]) -> &'a [u8]
     packet
 }
 
+#[tactic(auto, unfolding(crate::specs::Reading::reading))]
+fn answer<'a>(
+    datagram: &[u8],
+    scratch: &'a mut [u8; 1232],
+) -> Result<Packet2<'a>, Refusal2>
+    requires { length datagram.now ≤ 1232 }
+    ensures { Answers packet_of result (reading datagram.now) }
+{
+    if datagram.len() < LEAST {
+        return Err(Refusal2::Short(Short { at: 0, need: LEAST }));
+    }
+    packet(unexchanged(datagram, scratch))
+}
+
 /// Reads the packet of a datagram (MS-RDPEUDP2 section 2.2), which has at most 1,232 bytes.
 ///
 /// The datagram is copied into `scratch`, where the bytes at 0 and 7 get their own places, and the
 /// packet borrows its parts from there. Places in a refusal count in `scratch`: the prefix byte is
 /// at 0. The checks run in this order: [`Refusal2::Short`] where there are fewer than 8 bytes,
 /// `ShortLength`, `BadType`, `UnknownFlag`, `AckAndVector`, the fields, `Trailing`.
-#[tactic(auto, unfolding(crate::specs::Reading::reading))]
 pub fn read2<'a>(
     datagram: &[u8],
     scratch: &'a mut [u8; 1232],
 ) -> Result<Packet2<'a>, Refusal2>
     requires { length datagram.now ≤ 1232 }
+    // The datagram spells the packet that is read.
+    ensures found { IfOk result (λ p. Spells datagram.now (packet_of p)) }
+    // Where the datagram spells a packet, it is read.
+    ensures only { (p : Packet) → Spells datagram.now p → IsOkAnd result (λ answer. packet_of answer ≡ p) }
+    // A refusal is the first fault.
+    ensures refused { IfErr result (λ refusal. Refused datagram.now refusal) }
+    // The same as a function of the bytes.
     ensures exact { Answers packet_of result (reading datagram.now) }
 {
-    if datagram.len() < LEAST {
-        return Err(Refusal2::Short(Short { at: 0, need: LEAST }));
-    }
-    packet(unexchanged(datagram, scratch))
+    answer(datagram, scratch)
 }
