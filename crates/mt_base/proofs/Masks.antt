@@ -1,10 +1,10 @@
 -- Words of flags: numbers as sums of what they have under masks that share no bit.
-use Rattle.std.proofs.Common.{◌≡◌, ℕ, ◌+◌, ◌*◌, ◌-◌, ◌^◌, ◌%◌, ◌<◌, ◌≤◌, ◌⊎◌, inl, inr, bit_and, bit_or, refl, sym, ap, ◌∙◌, arith}
+use Rattle.std.proofs.Common.{◌≡◌, ℕ, ◌+◌, ◌*◌, ◌^◌, ◌<◌, ◌⊎◌, inl, inr, bit_and, bit_or, sym, ap, ◌∙◌, arith}
 use Rattle.std.specs.Int.{bit_at}
 use Rattle.std.specs.Int.Bits.{and_zero_r}
 use Rattle.std.proofs.Math.Nat.{mod-eq_of_lt, zero-mul, one-mul}
 use Rattle.std.proofs.lemmas.Bool.{cases_eq}
-use Rattle.std.proofs.lemmas.Nat.{and_assoc, and_comm, or_disjoint, and_or_apart, and_mask, and_le_r}
+use Rattle.std.proofs.lemmas.Nat.{and_assoc, and_comm, or_disjoint, and_or_apart, and_mask}
 use Rattle.std.proofs.lemmas.Nat.Bits.{same_from_bits, bit_at_and, bit_at_or, bit_at-zero, and_pow}
 
 -- what a word has under two masks that share no bit

@@ -46,7 +46,8 @@ not_dash : (byte : ℕ) (rest : List ℕ) → codes "-" ≢ encode_lower (byte �
 unfolding Rattle.hex.specs.Hex.encode_with
 not_dash byte rest e = cc
 
-hex_text-injective : (a b : List ℕ) → IsBytes a → IsBytes b → hex_text a ≡ hex_text b → a ≡ b
+-- bytes have one text
+pub hex_text-injective : (a b : List ℕ) → IsBytes a → IsBytes b → hex_text a ≡ hex_text b → a ≡ b
 hex_text-injective [] [] ha hb e = refl
 hex_text-injective [] (y ∷ ys) ha hb e = absurd (not_dash y ys e)
 hex_text-injective (x ∷ xs) [] ha hb e = absurd (not_dash x xs (sym e))
@@ -183,7 +184,8 @@ is_even_hex : (word : List ℕ) → Decides (is_lower_hex word && eqb (length wo
 is_even_hex word =
     Decides-and (is_lower_hex word) (eqb (length word % 2) 0) (λ h. h, λ h. h) (Decides-eqb (length word % 2) 0)
 
-tell_bytes : (word : List ℕ) → Told {A = List ℕ} IsBytes hex_text word
+-- a word spells bytes, or none
+pub tell_bytes : (word : List ℕ) → Told {A = List ℕ} IsBytes hex_text word
 tell_bytes word =
     elim (same_or_not word (codes "-")) [
       | inl is ↦ inl ([], (λ k d within. absurd (omega arith)), is)

@@ -1,5 +1,5 @@
 -- How the line of an event is spelled.
-use Rattle.std.specs.Prelude.{ℕ, ◌<◌, ◌^◌, List, [], ◌∷◌, length, codes, All}
+use Rattle.std.specs.Prelude.{ℕ, ◌<◌, ◌^◌, ◌≡◌, ◌≢◌, List, [], ◌∷◌, length, codes, All, Option, Some, None}
 use Rattle.std.specs.List.{join_with_byte}
 use Rattle.std.specs.Fmt.{decimal}
 use Rattle.mt_script.specs.Lines.{Lacks}
@@ -44,3 +44,8 @@ abbrev pub IsEvent : Event → Type 0
 IsEvent (Open name) = IsWord name × Lacks 10 name
 IsEvent (Send side id message) = (id < 2 ^ 32) × IsBytes message
 IsEvent (Main side) = Unit {0}
+
+-- a word spells these bytes, or none
+abbrev pub SpellsBytes : List ℕ → Option (List ℕ) → Type 0
+SpellsBytes word (Some bytes) = IsBytes bytes × (word ≡ hex_text bytes)
+SpellsBytes word None = (bytes : List ℕ) → IsBytes bytes → word ≢ hex_text bytes

@@ -16,8 +16,9 @@ pub(crate) fn cut_at(byte: u8, text: &[u8]) -> (&[u8], Option<&[u8]>)
     }
 }
 
-/// The first line of a text, and the text behind it.
-pub(crate) fn cut_line(text: &[u8]) -> (&[u8], &[u8])
+/// The first line of a text that is not empty, and the text behind it. The line's byte 10, where it
+/// has one, stands in neither.
+pub fn cut_line(text: &[u8]) -> (&[u8], &[u8])
     requires { 0 < length text.now }
     ensures lines { lines_of text.now ≡ result.0.now ∷ lines_of result.1.now }
     ensures no_end { Lacks 10 result.0.now }

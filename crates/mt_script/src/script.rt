@@ -11,7 +11,7 @@ use std::alloc::Global;
 use std::marker::Model;
 
 /// The most lines that a script has.
-const LINE_LIMIT: u64 = 4_000_000;
+pub const LINE_LIMIT: u64 = 4_000_000;
 
 /// The lines of a script that have an event, in order.
 #[derive(Drop)]
@@ -103,8 +103,9 @@ pub fn read_script(alloc: Global, bytes: &[u8]) -> Result<Script, ScriptRefusal>
     read_lines(alloc, bytes)
 }
 
-/// How many lines a text has.
-fn count_lines(text: &[u8]) -> u64
+/// How many lines a text has. A line ends at each byte 10, and bytes that no byte 10 follows are one
+/// more line.
+pub fn count_lines(text: &[u8]) -> u64
     ensures { result ≡ length (lines_of text.now) }
 {
     let mut count = 0;

@@ -169,3 +169,23 @@ fn counts_lines_first(rt: HostRuntime) -> Result<(), Fail> {
     }
     Ok(())
 }
+
+#[test]
+fn cuts_lines_and_reads_hex(rt: HostRuntime) -> Result<(), Fail> {
+    assert_eq!(rt; count_lines(b"a\n\nb"), 3);
+    assert_eq!(rt; cut_line(b"a\n\nb"), (b"a".as_slice(), b"\nb".as_slice()));
+    assert_eq!(rt; cut_line(b"b"), (b"b".as_slice(), b"".as_slice()));
+    let rows: [(&[u8], Option<&[u8]>); 6] = [
+        (b"-", Some(b"")),
+        (b"00ff", Some(b"\x00\xff")),
+        (b"0", None),
+        (b"FF", None),
+        (b"", None),
+        (b"00 ", None),
+    ];
+    for (word, bytes) in rows {
+        let read = hex_bytes(rt.alloc(), word)?;
+        assert_eq!(rt; read.as_ref().map(|text| text.bytes()), bytes);
+    }
+    Ok(())
+}

@@ -1,18 +1,18 @@
 //! What one word of a line spells: a command, a name, a side, a number or bytes.
 
-ghost use Rattle.std.specs.Prelude.{◌≡◌, ◌≢◌, ℕ, ◌<◌, ◌^◌, IfSome, IfNone};
+ghost use Rattle.std.specs.Prelude.{◌≡◌, ◌≢◌, ℕ, ◌<◌, ◌^◌, IfSome, IfNone, IfOk};
 ghost use Rattle.std.specs.Fmt.{decimal};
 ghost use Rattle.std.specs.List.{list_all};
 ghost use Rattle.mt_base.specs.declared.kinds.Role.{Role};
 ghost use Rattle.mt_script.specs.Lines.{Lacks};
-ghost use Rattle.mt_script.specs.Spelling.{side_name, hex_text, IsBytes, IsWord};
+ghost use Rattle.mt_script.specs.Spelling.{side_name, hex_text, IsBytes, IsWord, SpellsBytes};
 ghost use Rattle.mt_script.specs.declared.values.Command.{Command};
 ghost use Rattle.mt_script.specs.Reading.{IsNameOf, IsNumberOf, Spells, command_name, is_lower_digit, is_lower_hex, decoding_fault, begins_as_number};
 
 use crate::fault::LineFault;
 use crate::text::Text;
 use hex::FromHexError;
-use mt_base::Role;
+use mt_base::{NoMemory, Role};
 use std::alloc::Global;
 
 /// The first word of an event's line.
@@ -122,5 +122,17 @@ pub(crate) fn bytes_of(alloc: Global, word: &[u8]) -> Result<Text, LineFault>
     match hex::decode(alloc, word) {
         Ok(kept) => Ok(Text::from_vec(kept)),
         Err(error) => Err(decoding_fault(error)),
+    }
+}
+
+/// The bytes that a word spells, pairs of lower case digits or `-` for none; `None` where it spells
+/// no bytes.
+pub fn hex_bytes(alloc: Global, word: &[u8]) -> Result<Option<Text>, NoMemory>
+    ensures { IfOk result (SpellsBytes word.now) }
+{
+    match bytes_of(alloc, word) {
+        Ok(bytes) => Ok(Some(bytes)),
+        Err(LineFault::NoMemory) => Err(NoMemory),
+        Err(_) => Ok(None),
     }
 }

@@ -6,3 +6,7 @@ pub mod OpeningLemmas
 pub mod SynLemmas
 pub mod VectorLemmas
 pub mod DataLemmas
+pub mod ToldLemmas
+pub mod WholeLemmas
+pub mod Theorems
+pub mod ByteLemmas

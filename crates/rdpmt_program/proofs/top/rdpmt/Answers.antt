@@ -1,0 +1,30 @@
+use Rattle.std.proofs.Common.{◌≡◌, ◌⊎◌, inl, inr, refl}
+use Rattle.rdpmt_program.proofs.Rows.{ended_of, answered, not_printed, front_printed, played_to_end, either, of_usage, of_limit, of_complete}
+use Rattle.rdpmt_program.proofs.top.rdpmt.Goals as goal
+
+pub returns-clause-answer : goal.returns-clause-answer
+returns-clause-answer g c = answered (ended_of _ _ _ _ c.run-ended.result _ _ _ _ _ c.run-ended.ensures.cause c.tell.ensures)
+
+pub returns-clause-sink : goal.returns-clause-sink
+returns-clause-sink g c = not_printed (ended_of _ _ _ _ c.run-ended.result _ _ _ _ _ c.run-ended.ensures.cause c.tell.ensures)
+
+pub returns-clause-front : goal.returns-clause-front
+returns-clause-front g c = front_printed (ended_of _ _ _ _ c.run-ended.result _ _ _ _ _ c.run-ended.ensures.cause c.tell.ensures)
+
+pub returns-clause-done : goal.returns-clause-done
+returns-clause-done g c = played_to_end (ended_of _ _ _ _ c.run-ended.result _ _ _ _ _ c.run-ended.ensures.cause c.tell.ensures)
+
+pub returns-clause-usage : goal.returns-clause-usage
+returns-clause-usage g c = λ foreign.
+    either (ended_of _ _ _ _ c.run-ended.result _ _ _ _ _ c.run-ended.ensures.cause c.tell.ensures)
+    (λ s. (s ≡ 1) ⊎ (s ≡ 4)) (of_usage foreign) (λ rose. inr refl)
+
+pub returns-clause-limit : goal.returns-clause-limit
+returns-clause-limit g c = λ text names long.
+    either (ended_of _ _ _ _ c.run-ended.result _ _ _ _ _ c.run-ended.ensures.cause c.tell.ensures)
+    (λ s. (s ≡ 11) ⊎ (s ≡ 3) ⊎ (s ≡ 4) ⊎ (s ≡ 9)) (of_limit text names long) (λ rose. inr (inr (inl refl)))
+
+pub returns-clause-complete : goal.returns-clause-complete
+returns-clause-complete g c = λ text names playable calm calm_sink.
+    either (ended_of _ _ _ _ c.run-ended.result _ _ _ _ _ c.run-ended.ensures.cause c.tell.ensures)
+    (λ s. (s ≡ 0) ⊎ (s ≡ 9)) (of_complete c.one_answer.ensures.one text names playable calm) (λ rose. absurd (calm_sink rose))

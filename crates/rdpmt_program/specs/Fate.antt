@@ -1,0 +1,74 @@
+-- What a fault that ends a command says of its words and of the store.
+use Rattle.std.specs.Prelude.{◌≡◌, ℕ, ◌<◌, ◌⊎◌, List, length, take, string_bytes, Option, Some, None, Result, Ok, Err}
+use Rattle.mt_base.specs.declared.kinds.Role.{Role}
+use Rattle.mt_base.specs.Trace.{Trace}
+use Rattle.mt_script.specs.Lines.{lines_of}
+use Rattle.mt_script.specs.Meaning.{line_limit}
+use Rattle.mt_world.specs.declared.world.World.{World}
+use Rattle.mt_world.specs.Acts.{Entry}
+use Rattle.mt_world.specs.Play.{Ending, Done, RefusedAt}
+use Rattle.mt_world.specs.WorldView.{Stands}
+use Rattle.mt_outside.specs.Faults.{Rose}
+use Rattle.mt_outside.specs.Files.{Contents}
+use Rattle.mt_outside.specs.Told.{added}
+use Rattle.rdpmt_program.specs.declared.fault.Fault.{Fault}
+use Rattle.rdpmt_program.specs.declared.fault.Fault.TheVariants.{Usage, Refused, File, Limit, NoMemory}
+use Rattle.rdpmt_program.specs.declared.playing.Stop.{Stop}
+use Rattle.rdpmt_program.specs.declared.playing.Stop.TheVariants as stop
+use Rattle.rdpmt_program.specs.declared.words.Command.{Command}
+use Rattle.rdpmt_program.specs.declared.words.Command.TheVariants.{Play}
+use Rattle.rdpmt_program.specs.Command.{IsPlay, IsCommand, usage_line}
+use Rattle.rdpmt_program.specs.Script.{PlaysTo, IsRefused}
+use Rattle.rdpmt_program.specs.Table.{IsScript, PassesLimit, file_fault_line, no_memory_line, limit_line}
+
+-- what the words were read as
+abbrev pub IsRead : List (List ℕ) → Option Command → Type 0
+IsRead words None = ¬ IsCommand words
+IsRead words (Some (Play script)) = IsPlay words script.now
+
+-- the fault that a line is refused with this printed line, or want of memory
+abbrev pub Refuses : Fault → List ℕ → Type 0
+Refuses (Refused line) text = string_bytes line ≡ text
+Refuses NoMemory text = Unit {0}
+Refuses Usage text = ⊥
+Refuses File text = ⊥
+Refuses Limit text = ⊥
+
+-- what a play of lines came to, against the list that Play gives
+abbrev pub Plays : Result World Stop → Trace (Role × Entry) × Ending → Type 0
+Plays (Ok world) answer = (list : Trace (Role × Entry)) × (answer ≡ (list, Done)) × Stands world list
+Plays (Err (stop.RefusedAt line cause)) answer = (list : Trace (Role × Entry)) × (answer ≡ (list, RefusedAt line cause))
+Plays (Err stop.NoMemory) answer = Unit {0}
+
+-- what the play of a text came to
+abbrev pub Gives : List ℕ → Result (List ℕ) Fault → Type 0
+Gives text (Ok output) = PlaysTo text output
+Gives text (Err Usage) = ⊥
+Gives text (Err (Refused line)) = IsRefused text (string_bytes line)
+Gives text (Err File) = ⊥
+Gives text (Err Limit) = line_limit < length (lines_of text)
+Gives text (Err NoMemory) = Unit {0}
+
+-- what a command came to
+abbrev pub Runs : List (List ℕ) → Option Contents → (before after : ℕ) → Result (List ℕ) Fault → Type 0
+Runs words told before after (Ok output) = (text : List ℕ) × IsScript words told text × PlaysTo text output
+Runs words told before after (Err Usage) = ¬ IsCommand words
+Runs words told before after (Err (Refused line)) = (text : List ℕ) × IsScript words told text × IsRefused text (string_bytes line)
+Runs words told before after (Err File) = IsCommand words × Rose before after
+Runs words told before after (Err Limit) = PassesLimit words told
+Runs words told before after (Err NoMemory) = IsCommand words
+
+-- the status and the output of what a command came to
+abbrev pub Tells : Result (List ℕ) Fault → ℕ → List ℕ → Type 0
+Tells (Ok report) status output = (status ≡ 0) × (output ≡ report)
+Tells (Err Usage) status output = (status ≡ 1) × (output ≡ usage_line)
+Tells (Err (Refused line)) status output = (status ≡ 2) × (output ≡ string_bytes line)
+Tells (Err File) status output = (status ≡ 3) × (output ≡ file_fault_line)
+Tells (Err NoMemory) status output = (status ≡ 9) × (output ≡ no_memory_line)
+Tells (Err Limit) status output = (status ≡ 11) × (output ≡ limit_line)
+
+-- The whole output was written and the status is the answer, or the sink failed: a front of the
+-- output was written, and the answer is 4.
+abbrev pub Printed : (status : ℕ) (output : List ℕ) (answer : ℕ) (old new : Option (List ℕ)) (before after : ℕ) → Type 0
+Printed status output answer old new before after =
+    ((answer ≡ status) × (new ≡ added old output)) ⊎ ((answer ≡ 4) × Rose before after × (k : ℕ) × (new ≡ added old (take k output)))

@@ -1,0 +1,42 @@
+//! The program `rdpmt`: it plays a script of two ends of a session, and prints what each end sent
+//! and what was delivered of it.
+//!
+//! [`rdpmt`](top::rdpmt) is the whole program over a store of files and a sink; `main` gives it the
+//! words of the call and the machine's devices. Below it stand `mt_world`, which plays, `mt_script`,
+//! which reads scripts, and `mt_outside`, which has the devices. The contract of `rdpmt` names the
+//! only cause of each status, and what is printed with it.
+#![tactic(auto)]
+
+mod fault;
+mod playing;
+mod print;
+mod top;
+mod words;
+
+use mt_outside::{RealFiles, RealSink};
+use std::process::ExitCode;
+use std::{env, io};
+
+/// The status where the words of the call find no memory.
+const NO_MEMORY: u8 = 9;
+
+/// The words after the program's name. Words that are no text are none: no command has such words.
+fn call_words(rt: &HostRuntime) -> io::Result<Vec<String>> {
+    match env::args(rt) {
+        Ok(args) => Ok(args.skip(1).collect(rt.alloc())?),
+        Err(error) if error.kind() == io::ErrorKind::InvalidData => Ok(Vec::new(rt.alloc())),
+        Err(error) => Err(error),
+    }
+}
+
+fn main(rt: HostRuntime) -> ExitCode {
+    let Ok(words) = call_words(&rt) else {
+        return ExitCode::from(NO_MEMORY);
+    };
+    let mut files = RealFiles::new(&rt, rt.alloc());
+    let mut out = RealSink::new(&rt);
+    ExitCode::from(top::rdpmt(rt.alloc(), &words, &mut files, &mut out))
+}
+
+#[cfg(test)]
+mod tests;
