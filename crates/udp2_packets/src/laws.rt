@@ -1,8 +1,10 @@
 //! Laws of the layout.
 
-ghost use Rattle.std.specs.Prelude.{◌≡◌, ◌≢◌, ◌<◌, ◌≤◌, ◌^◌, ◌⊎◌, ◌↔◌, ℕ, List, length, slice_index, All, Ok, Err};
+ghost use Rattle.std.specs.Prelude.{◌≡◌, ◌<◌, ◌≤◌, ◌^◌, ◌⊎◌, ◌↔◌, ℕ, List, length, slice_index, All, Ok, Err};
 ghost use Rattle.carrier.specs.declared.second_layout.Refusal2.{Refusal2};
 ghost use Rattle.carrier.specs.declared.second_layout.Refusal2.TheVariants as refusal;
+ghost use Rattle.udp1_packets.specs.Value.{Packet as FirstPacket, Syn, SynBody};
+ghost use Rattle.udp1_packets.specs.Layout.{Spells as SpellsFirst};
 ghost use Rattle.udp2_packets.specs.Value.{Packet};
 ghost use Rattle.udp2_packets.specs.Layout.{IsPacket, Spells, spelled};
 ghost use Rattle.udp2_packets.specs.Faults.{Refused};
@@ -28,11 +30,13 @@ pub fn reading_by_layout()
     ensures fault { (datagram : List ℕ) (r : Refusal2) → All (λ b. b < 2 ^ 8) datagram → (reading datagram ≡ Err r) ↔ Refused datagram r }
 {}
 
-/// A packet of the second layout has at 7 a byte of at least 0x40. A datagram with a lower byte
-/// there, as the low byte of the flags of an opening of the first layout is (0x01, or 0x05 where it
-/// answers one), is refused for its short length.
+/// A packet of the second layout has at 7 a byte of at least 0x40, and a datagram with a lower byte
+/// there is refused for its short length. An opening of the first layout has at 7 the low byte of
+/// its flags, 0x01, or 0x05 where it answers one. So no bytes are both.
 pub fn separation()
     ensures high { (datagram : List ℕ) (p : Packet) → Spells datagram p → 0x40 ≤ slice_index datagram 7 }
-    ensures low { (datagram : List ℕ) → 8 ≤ length datagram → slice_index datagram 7 < 0x40 → Refused datagram (refusal.ShortLength 0) }
-    ensures apart { (datagram : List ℕ) (p : Packet) → Spells datagram p → (slice_index datagram 7 ≢ 0x01) × (slice_index datagram 7 ≢ 0x05) }
+    ensures low { (datagram : List ℕ) → 8 ≤ length datagram → slice_index datagram 7 < 0x40
+        → Refused datagram (refusal.ShortLength 0) }
+    ensures apart { (bytes : List ℕ) (opening : FirstPacket) (syn : Syn) (second : Packet)
+        → SpellsFirst bytes opening → opening.body ≡ SynBody syn → Spells bytes second → ⊥ }
 {}
