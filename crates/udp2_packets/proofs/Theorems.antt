@@ -145,15 +145,18 @@ of_spelled p datagram s = (s.is, s.holds)
 
 written_holds : (p : Packet) → IsPacket p → IsPacket p × Holds (spelled p) (kind p.body) (text p)
 unfolding spelled
-written_holds p is = (is, record {
-  reserved = 0;
-  filling = zeros p;
-  reserved_fits = omega arith;
-  kind_fits = few p.body;
-  headed = omega arith;
-  filled = (let n : ℕ = 0 in length-replicate (7 - length (text p)) n);
-  datagram_is = ap exchanged (written_is p);
-})
+written_holds p is = (
+  is,
+  record {
+    reserved = 0;
+    filling = zeros p;
+    reserved_fits = omega arith;
+    kind_fits = few p.body;
+    headed = omega arith;
+    filled = (let n : ℕ = 0 in length-replicate (7 - length (text p)) n);
+    datagram_is = ap exchanged (written_is p);
+  },
+)
   where
     few : (body : Body) → kind body < 16
     few NoBody = omega arith

@@ -114,9 +114,10 @@ exchanged_whole p from plain set last n end byte long plain_is end_is byte_is se
     let first : byte ≡ prefix 0 (kind p.body) (length (text p)) = byte_is ∙ ap (prefix 0 (kind p.body)) (omega arith) in
     let whole : set ≡ joined (written_fields p) ++ drop n from =
     set_is ∙ ap (λ t. slice_set t 0 byte) front ∙ ap (λ b. b ∷ ((text p ++ zeros p) ++ drop n from)) first ∙ sym (ap (λ t. t ++ drop n from) (written_is p)) in
-    let eight : 8 ≤ length (joined (written_fields p)) = omega (arith, ap length (written_is p)) in
-    (omega (arith, ap length (plain_bytes p), ap length (written_is p), length-exchanged (joined (written_fields p))),
-      last_is ∙ ap exchanged whole ∙ exchanged-append (joined (written_fields p)) (drop n from) eight)
+    let eight : 8 ≤ length (joined (written_fields p)) = omega (arith, ap length (written_is p)) in (
+      omega (arith, ap length (plain_bytes p), ap length (written_is p), length-exchanged (joined (written_fields p))),
+      last_is ∙ ap exchanged whole ∙ exchanged-append (joined (written_fields p)) (drop n from) eight,
+    )
 
 -- ---- where a field does not fit
 

@@ -44,14 +44,17 @@ has flags mask = not (bit_and flags mask == 0)
 abbrev pub flag_if : Bool → ℕ → ℕ
 flag_if set flag = if set then flag else 0
 
--- ACK 0x001, DATA 0x004, ACKVEC 0x008, AOA 0x010, OVERHEADSIZE 0x040, DELAYACKINFO 0x100: each says
--- that its field is there
+-- ACK 0x001, DATA 0x004, ACKVEC 0x008, AOA 0x010, OVERHEADSIZE 0x040, DELAYACKINFO 0x100: each
+-- says that its field is there
 abbrev pub flags_for : Bool → Bool → Bool → Bool → Bool → Bool → ℕ
 flags_for ack number vector aoa overhead delay =
-    flag_if ack 0x001 + flag_if number 0x004 + flag_if vector 0x008 + flag_if aoa 0x010 + flag_if overhead 0x040 + flag_if delay 0x100
+    flag_if ack 0x001 + flag_if number 0x004 + flag_if vector 0x008 + flag_if aoa 0x010
+    + flag_if overhead 0x040 + flag_if delay 0x100
 
 abbrev pub flags : Packet → ℕ
-flags p = flags_for (is_some (ack_in p.telling)) (is_some (number_in p.body)) (is_some (vector_in p.telling)) (is_some p.aoa) (is_some p.overhead) (is_some p.delay)
+flags p =
+    flags_for (is_some (ack_in p.telling)) (is_some (number_in p.body))
+    (is_some (vector_in p.telling)) (is_some p.aoa) (is_some p.overhead) (is_some p.delay)
 
 -- the flags in the lower twelve bits, the logarithm of the window in the upper four
 abbrev pub header : ℕ → ℕ → List ℕ
@@ -74,7 +77,8 @@ number_field number = little_bytes 2 number ∷ []
 -- the upper four
 abbrev pub ack_fields : Ack → List (List ℕ)
 ack_fields a =
-    little_bytes 2 a.number ∷ little_bytes 3 a.received_ts ∷ (a.gap ∷ []) ∷ ((length a.delays + 16 * a.scale) ∷ []) ∷ a.delays ∷ []
+    little_bytes 2 a.number ∷ little_bytes 3 a.received_ts ∷ (a.gap ∷ [])
+    ∷ ((length a.delays + 16 * a.scale) ∷ []) ∷ a.delays ∷ []
 
 abbrev pub stamp_fields : Stamp → List (List ℕ)
 stamp_fields s = little_bytes 3 s.time ∷ (s.gap ∷ []) ∷ []
@@ -83,7 +87,8 @@ stamp_fields s = little_bytes 3 s.time ∷ (s.gap ∷ []) ∷ []
 -- there is a time in the highest
 abbrev pub vector_fields : Vector → List (List ℕ)
 vector_fields v =
-    little_bytes 2 v.base ∷ ((length v.coded + flag_if (is_some v.stamp) 128) ∷ []) ∷ (where_some stamp_fields v.stamp ++ (v.coded ∷ []))
+    little_bytes 2 v.base ∷ ((length v.coded + flag_if (is_some v.stamp) 128) ∷ [])
+    ∷ (where_some stamp_fields v.stamp ++ (v.coded ∷ []))
 
 -- section 2.2.1.2.3
 abbrev pub delay_fields : Delay → List (List ℕ)
@@ -94,8 +99,13 @@ delay_fields d = (d.most ∷ []) ∷ little_bytes 2 d.timeout ∷ []
 -- (2.2.1.2.5), the vector, and the number of a part (2.2.1.2.7).
 abbrev pub announced_fields : Packet → List (List ℕ)
 announced_fields p =
-    where_some ack_fields (ack_in p.telling) ++ (where_some byte_field p.overhead ++ (where_some delay_fields p.delay ++ (where_some number_field p.aoa
-    ++ (where_some number_field (number_in p.body) ++ (where_some vector_fields (vector_in p.telling) ++ where_some number_field (part_in p.body))))))
+    where_some ack_fields (ack_in p.telling)
+    ++ (where_some byte_field p.overhead
+    ++ (where_some delay_fields p.delay
+    ++ (where_some number_field p.aoa
+    ++ (where_some number_field (number_in p.body)
+    ++ (where_some vector_fields (vector_in p.telling)
+    ++ where_some number_field (part_in p.body))))))
 
 -- all fields, up to the bytes that end the packet
 abbrev pub fields : Packet → List (List ℕ)
@@ -170,7 +180,8 @@ pub record Holds (datagram : List ℕ) (kind : ℕ) (text : List ℕ) : Type 0 w
   pub kind_fits : kind < 16
   pub headed : 2 ≤ length text
   pub filled : length filling ≡ 7 - length text
-  pub datagram_is : datagram ≡ exchanged (prefix reserved kind (length text) ∷ (text ++ filling))
+  pub datagram_is : datagram ≡
+      exchanged (prefix reserved kind (length text) ∷ (text ++ filling))
 
 -- this datagram spells this packet
 pub record Spells (datagram : List ℕ) (p : Packet) : Type 0 where
@@ -188,7 +199,8 @@ abbrev pub all_fields : Packet → List (List ℕ)
 all_fields p = fields p ++ (rest_in p.body ∷ [])
 
 unfoldable pub written_fields : Packet → List (List ℕ)
-written_fields p = (prefix 0 (kind p.body) (length (text p)) ∷ []) ∷ (all_fields p ++ (zeros p ∷ []))
+written_fields p =
+    (prefix 0 (kind p.body) (length (text p)) ∷ []) ∷ (all_fields p ++ (zeros p ∷ []))
 
 -- the same with a zero for the prefix byte
 unfoldable pub plain_fields : Packet → List (List ℕ)

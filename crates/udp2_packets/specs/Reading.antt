@@ -10,7 +10,8 @@ use Rattle.udp2_packets.specs.Layout.{has, exchanged}
 
 infixl 10 ◌>>=◌
 -- the next part, where the one before it was read
-abbrev pub ◌>>=◌ : {A B : Type 0} → Result A Refusal2 → (A → Result B Refusal2) → Result B Refusal2
+abbrev pub ◌>>=◌ : {A B : Type 0} → Result A Refusal2 → (A → Result B Refusal2)
+    → Result B Refusal2
 (Ok x) >>= next = next x
 (Err e) >>= next = Err e
 
@@ -20,7 +21,8 @@ cut (Ok x) = Ok x
 cut (Err e) = Err (refusal.Short e)
 
 -- a part that a flag announces
-abbrev pub where_set : {A : Type 0} → Bool → (Left → Result (A × Left) Refusal2) → Left → Result (Option A × Left) Refusal2
+abbrev pub where_set : {A : Type 0} → Bool → (Left → Result (A × Left) Refusal2) → Left
+    → Result (Option A × Left) Refusal2
 where_set false read s = Ok (None, s)
 where_set true read s = read s >>= λ x. Ok (Some x.0, x.1)
 
@@ -39,7 +41,16 @@ ack_at s = do
   gap ← cut (big 1 received_ts.1)
   sizes ← cut (big 1 gap.1)
   delays ← cut (block (sizes.0 % 16) sizes.1)
-  Ok (record { number = number.0; received_ts = received_ts.0; gap = gap.0; scale = sizes.0 / 16; delays = delays.0 }, delays.1)
+  Ok (
+    record {
+      number = number.0;
+      received_ts = received_ts.0;
+      gap = gap.0;
+      scale = sizes.0 / 16;
+      delays = delays.0;
+    },
+    delays.1,
+  )
 
 unfoldable pub stamp_at : Left → Result (Stamp × Left) Refusal2
 stamp_at s = do
@@ -100,19 +111,34 @@ announced_at dummy flags s = do
   number ← number_where (has flags 0x004) aoa.1
   vector ← vector_where (has flags 0x008) number.1
   part ← number_where (has flags 0x004 && not dummy) vector.1
-  Ok (record { ack = ack.0; overhead = overhead.0; delay = delay.0; aoa = aoa.0; number = number.0; vector = vector.0; part = part.0 }, part.1)
+  Ok (
+    record {
+      ack = ack.0;
+      overhead = overhead.0;
+      delay = delay.0;
+      aoa = aoa.0;
+      number = number.0;
+      vector = vector.0;
+      part = part.0;
+    },
+    part.1,
+  )
 
 abbrev pub telling : Option Ack → Option Vector → Telling
 telling (Some ack) vector = AckTelling ack
 telling None (Some vector) = VectorTelling vector
 telling None None = NoTelling
 
+-- nothing stands behind the fields
+abbrev pub no_more : Left → Result Body Refusal2
+no_more s = if nat_lt 0 (length s.bytes) then Err (refusal.Trailing s.at) else Ok NoBody
+
 -- what stands behind the fields
 unfoldable pub body_at : Bool → Option ℕ → Option ℕ → Left → Result Body Refusal2
 body_at true number part s = Ok (DummyBody number s.bytes)
 body_at false (Some number) (Some part) s = Ok (DataBody number part s.bytes)
-body_at false (Some number) None s = if nat_lt 0 (length s.bytes) then Err (refusal.Trailing s.at) else Ok NoBody
-body_at false None part s = if nat_lt 0 (length s.bytes) then Err (refusal.Trailing s.at) else Ok NoBody
+body_at false (Some number) None s = no_more s
+body_at false None part s = no_more s
 
 unfoldable pub fields_at : Bool → ℕ → ℕ → Left → Result Packet Refusal2
 fields_at dummy flags log_window s = do
@@ -143,7 +169,8 @@ header_at dummy s = do
 -- where the packet ends in a datagram of this length whose first byte is this
 unfoldable pub end_of : ℕ → ℕ → Result ℕ Refusal2
 end_of first long =
-    if nat_lt (first / 32) 2 || nat_lt (first / 32) 7 && nat_lt 8 long then Err (refusal.ShortLength 0)
+    if nat_lt (first / 32) 2 || nat_lt (first / 32) 7 && nat_lt 8 long
+    then Err (refusal.ShortLength 0)
     else Ok (if nat_lt (first / 32) 7 then 1 + first / 32 else long)
 
 -- whether the packet is a dummy
@@ -164,12 +191,14 @@ packet_at bytes = do
 -- what a datagram is
 unfoldable pub reading : List ℕ → Result Packet Refusal2
 reading datagram =
-    if nat_lt (length datagram) 8 then Err (refusal.Short (record { at = 0; need = 8 }))
+    if nat_lt (length datagram) 8
+    then Err (refusal.Short (record { at = 0; need = 8 }))
     else packet_at (exchanged datagram)
 
 -- What a reader of a part returned, seen by `view`, and what it left are what reading gives. After
 -- a refusal nothing is said of the cursor.
-abbrev pub Reads : {X Y : Type 0} → (X → Y) → Left → Result X Refusal2 → Result (Y × Left) Refusal2 → Type 0
+abbrev pub Reads : {X Y : Type 0} → (X → Y) → Left → Result X Refusal2
+    → Result (Y × Left) Refusal2 → Type 0
 Reads view new (Ok x) read = read ≡ Ok (view x, new)
 Reads view new (Err e) read = read ≡ Err e
 

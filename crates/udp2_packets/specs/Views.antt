@@ -14,7 +14,13 @@ use Rattle.udp2_packets.specs.Value.{Ack, Stamp, Vector, Telling, NoTelling, Ack
 use Rattle.udp2_packets.specs.Reading.{Announced}
 
 abbrev pub ack_of : Ack2 → Ack
-ack_of a = record { number = a.number; received_ts = a.received_ts; gap = a.gap; scale = a.scale; delays = a.delays.now }
+ack_of a = record {
+  number = a.number;
+  received_ts = a.received_ts;
+  gap = a.gap;
+  scale = a.scale;
+  delays = a.delays.now;
+}
 
 abbrev pub stamp_of : Stamp2 → Stamp
 stamp_of s = record { time = s.time; gap = s.gap }

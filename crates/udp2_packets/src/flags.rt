@@ -4,10 +4,15 @@ ghost use Rattle.std.specs.Prelude.{◌≡◌};
 ghost use Rattle.udp2_packets.specs.Layout.{has};
 
 pub const ACK: u16 = 0x001;
+
 pub const DATA: u16 = 0x004;
+
 pub const ACKVEC: u16 = 0x008;
+
 pub const AOA: u16 = 0x010;
+
 pub const OVERHEADSIZE: u16 = 0x040;
+
 pub const DELAYACKINFO: u16 = 0x100;
 
 /// All others.

@@ -18,23 +18,30 @@ pub fn written_is_read()
 
 /// A datagram spells one packet or has one first fault, and never both.
 pub fn one_meaning()
-    ensures value { (datagram : List ℕ) (p q : Packet) → Spells datagram p → Spells datagram q → p ≡ q }
-    ensures fault { (datagram : List ℕ) (r q : Refusal2) → Refused datagram r → Refused datagram q → r ≡ q }
-    ensures one_of_both { (datagram : List ℕ) → All (λ b. b < 2 ^ 8) datagram → length datagram ≤ 1232 → ((p : Packet) × Spells datagram p) ⊎ ((r : Refusal2) × Refused datagram r) }
-    ensures never_both { (datagram : List ℕ) (p : Packet) (r : Refusal2) → Spells datagram p → Refused datagram r → ⊥ }
+    ensures value { (datagram : List ℕ) (p q : Packet)
+        → Spells datagram p → Spells datagram q → p ≡ q }
+    ensures fault { (datagram : List ℕ) (r q : Refusal2)
+        → Refused datagram r → Refused datagram q → r ≡ q }
+    ensures one_of_both { (datagram : List ℕ) → All (λ b. b < 2 ^ 8) datagram
+        → length datagram ≤ 1232 → ((p : Packet) × Spells datagram p) ⊎ ((r : Refusal2) × Refused datagram r) }
+    ensures never_both { (datagram : List ℕ) (p : Packet) (r : Refusal2)
+        → Spells datagram p → Refused datagram r → ⊥ }
 {}
 
 /// Reading as a function of the bytes gives the packet that they spell, or their first fault.
 pub fn reading_by_layout()
-    ensures packet { (datagram : List ℕ) (p : Packet) → All (λ b. b < 2 ^ 8) datagram → length datagram ≤ 1232 → (reading datagram ≡ Ok p) ↔ Spells datagram p }
-    ensures fault { (datagram : List ℕ) (r : Refusal2) → All (λ b. b < 2 ^ 8) datagram → (reading datagram ≡ Err r) ↔ Refused datagram r }
+    ensures packet { (datagram : List ℕ) (p : Packet) → All (λ b. b < 2 ^ 8) datagram
+        → length datagram ≤ 1232 → (reading datagram ≡ Ok p) ↔ Spells datagram p }
+    ensures fault { (datagram : List ℕ) (r : Refusal2) → All (λ b. b < 2 ^ 8) datagram
+        → (reading datagram ≡ Err r) ↔ Refused datagram r }
 {}
 
-/// A packet of the second layout has at 7 a byte of at least 0x40, and a datagram with a lower byte
-/// there is refused for its short length. An opening of the first layout has at 7 the low byte of
+/// A packet of the second layout has at 7 a byte of at least 0x40, and a datagram with a lower
+/// byte there is refused for its short length. An opening of the first layout has at 7 the low byte of
 /// its flags, 0x01, or 0x05 where it answers one. So no bytes are both.
 pub fn separation()
-    ensures high { (datagram : List ℕ) (p : Packet) → Spells datagram p → 0x40 ≤ slice_index datagram 7 }
+    ensures high { (datagram : List ℕ) (p : Packet)
+        → Spells datagram p → 0x40 ≤ slice_index datagram 7 }
     ensures low { (datagram : List ℕ) → 8 ≤ length datagram → slice_index datagram 7 < 0x40
         → Refused datagram (refusal.ShortLength 0) }
     ensures apart { (bytes : List ℕ) (opening : FirstPacket) (syn : Syn) (second : Packet)

@@ -77,7 +77,8 @@ fn stamp(from: &mut Cursor<'_>) -> Result<Stamp2, Refusal2>
 
 #[tactic(auto, unfolding(crate::specs::Reading::stamp_where))]
 fn stamp_where(from: &mut Cursor<'_>, there: bool) -> Result<Option<Stamp2>, Refusal2>
-    ensures { Reads (option_map stamp_of) (left from.new) result (stamp_where there (left from.old)) }
+    ensures { Reads (option_map stamp_of) (left from.new) result
+        (stamp_where there (left from.old)) }
 {
     if !there {
         return Ok(None);
@@ -97,11 +98,9 @@ fn vector<'a>(from: &mut Cursor<'a>) -> Result<Vector2<'a>, Refusal2>
 }
 
 #[tactic(auto, unfolding(crate::specs::Reading::vector_where))]
-fn vector_where<'a>(
-    from: &mut Cursor<'a>,
-    there: bool,
-) -> Result<Option<Vector2<'a>>, Refusal2>
-    ensures { Reads (option_map vector_of) (left from.new) result (vector_where there (left from.old)) }
+fn vector_where<'a>(from: &mut Cursor<'a>, there: bool) -> Result<Option<Vector2<'a>>, Refusal2>
+    ensures { Reads
+        (option_map vector_of) (left from.new) result (vector_where there (left from.old)) }
 {
     if !there {
         return Ok(None);
@@ -120,7 +119,8 @@ fn delay(from: &mut Cursor<'_>) -> Result<DelayInfo, Refusal2>
 
 #[tactic(auto, unfolding(crate::specs::Reading::delay_where))]
 fn delay_where(from: &mut Cursor<'_>, there: bool) -> Result<Option<DelayInfo>, Refusal2>
-    ensures { Reads (option_map delay_of) (left from.new) result (delay_where there (left from.old)) }
+    ensures { Reads (option_map delay_of) (left from.new) result
+        (delay_where there (left from.old)) }
 {
     if !there {
         return Ok(None);
@@ -141,12 +141,9 @@ struct Parts<'a> {
 }
 
 #[tactic(auto, unfolding(crate::specs::Reading::announced_at))]
-fn announced<'a>(
-    from: &mut Cursor<'a>,
-    dummy: bool,
-    flags: u16,
-) -> Result<Parts<'a>, Refusal2>
-    ensures { Reads announced_of (left from.new) result (announced_at dummy flags (left from.old)) }
+fn announced<'a>(from: &mut Cursor<'a>, dummy: bool, flags: u16) -> Result<Parts<'a>, Refusal2>
+    ensures { Reads announced_of (left from.new) result
+        (announced_at dummy flags (left from.old)) }
 {
     let ack = ack_where(from, flags::has(flags, flags::ACK))?;
     let overhead = byte_where(from, flags::has(flags, flags::OVERHEADSIZE))?;
@@ -167,7 +164,8 @@ fn announced<'a>(
 }
 
 fn telling<'a>(ack: Option<Ack2<'a>>, vector: Option<Vector2<'a>>) -> Telling2<'a>
-    ensures { telling_of result ≡ telling (option_map ack_of ack.entry) (option_map vector_of vector.entry) }
+    ensures { telling_of result ≡ telling (option_map ack_of ack.entry)
+        (option_map vector_of vector.entry) }
 {
     match (ack, vector) {
         (Some(ack), _) => Telling2::Ack(ack),
@@ -303,10 +301,7 @@ fn unexchanged<'a>(datagram: &[u8], scratch: &'a mut [u8; 1232]) -> &'a [u8]
 }
 
 #[tactic(auto, unfolding(crate::specs::Reading::reading))]
-fn answer<'a>(
-    datagram: &[u8],
-    scratch: &'a mut [u8; 1232],
-) -> Result<Packet2<'a>, Refusal2>
+fn answer<'a>(datagram: &[u8], scratch: &'a mut [u8; 1232]) -> Result<Packet2<'a>, Refusal2>
     requires { length datagram.now ≤ 1232 }
     ensures { Answers packet_of result (reading datagram.now) }
 {
@@ -322,15 +317,13 @@ fn answer<'a>(
 /// packet borrows its parts from there. Places in a refusal count in `scratch`: the prefix byte is
 /// at 0. The checks run in this order: [`Refusal2::Short`] where there are fewer than 8 bytes,
 /// `ShortLength`, `BadType`, `UnknownFlag`, `AckAndVector`, the fields, `Trailing`.
-pub fn read2<'a>(
-    datagram: &[u8],
-    scratch: &'a mut [u8; 1232],
-) -> Result<Packet2<'a>, Refusal2>
+pub fn read2<'a>(datagram: &[u8], scratch: &'a mut [u8; 1232]) -> Result<Packet2<'a>, Refusal2>
     requires { length datagram.now ≤ 1232 }
     // The datagram spells the packet that is read.
     ensures found { IfOk result (λ p. Spells datagram.now (packet_of p)) }
     // Where the datagram spells a packet, it is read.
-    ensures only { (p : Packet) → Spells datagram.now p → IsOkAnd result (λ answer. packet_of answer ≡ p) }
+    ensures only { (p : Packet) → Spells datagram.now p
+        → IsOkAnd result (λ answer. packet_of answer ≡ p) }
     // A refusal is the first fault.
     ensures refused { IfErr result (λ refusal. Refused datagram.now refusal) }
     // The same as a function of the bytes.

@@ -202,17 +202,32 @@ fn refuses_in_order(rt: HostRuntime) {
     assert_eq!(rt; fault(&[0x80, 0x10, 0x60, 0x34, 0x12, 0, 0]), short(0, 8));
     let faults = [
         // A wrong short length comes before a wrong type, that before a flag.
-        ([0x22, 0x02, 0, 0, 0, 0, 0, 0], Refusal2::ShortLength { at: 0 }),
+        (
+            [0x22, 0x02, 0, 0, 0, 0, 0, 0],
+            Refusal2::ShortLength { at: 0 },
+        ),
         ([0x42, 0x02, 0, 0, 0, 0, 0, 0], Refusal2::BadType { at: 0 }),
-        ([0xe0, 0x0b, 0x60, 0, 0, 0, 0, 0], Refusal2::UnknownFlag { at: 1 }),
-        ([0xe0, 0x09, 0x60, 0, 0, 0, 0, 0], Refusal2::AckAndVector { at: 1 }),
+        (
+            [0xe0, 0x0b, 0x60, 0, 0, 0, 0, 0],
+            Refusal2::UnknownFlag { at: 1 },
+        ),
+        (
+            [0xe0, 0x09, 0x60, 0, 0, 0, 0, 0],
+            Refusal2::AckAndVector { at: 1 },
+        ),
         // Inside the number of a part.
         (
             [0xa0, 0x04, 0x60, 0, 0, 0, 0, 0],
             Refusal2::Short(Short { at: 5, need: 2 }),
         ),
-        ([0x60, 0x00, 0x60, 0, 0, 0, 0, 0], Refusal2::Trailing { at: 3 }),
-        ([0xe0, 0x10, 0x60, 1, 2, 3, 4, 5], Refusal2::Trailing { at: 5 }),
+        (
+            [0x60, 0x00, 0x60, 0, 0, 0, 0, 0],
+            Refusal2::Trailing { at: 3 },
+        ),
+        (
+            [0xe0, 0x10, 0x60, 1, 2, 3, 4, 5],
+            Refusal2::Trailing { at: 5 },
+        ),
     ];
     for (packet, refusal) in faults {
         assert_eq!(rt; fault(&packet), Some(refusal));
@@ -273,8 +288,8 @@ fn writes_what_was_read(rt: HostRuntime) {
         // An acknowledgement with no delay and one with fifteen.
         &[5, 0x01, 0x60, 1, 2, 3, 4, 0xe0, 6, 0x70],
         &[
-            5, 0x01, 0x60, 1, 2, 3, 4, 0xe0, 6, 0x7f, 1, 2, 3, 4, 5, 6, 7, 8, 9, 10, 11, 12, 13, 14,
-            15,
+            5, 0x01, 0x60, 1, 2, 3, 4, 0xe0, 6, 0x7f, 1, 2, 3, 4, 5, 6, 7, 8, 9, 10, 11, 12, 13,
+            14, 15,
         ],
         &[0x00, 0x40, 0x60, 0x34, 0, 0, 0, 0x60],
         &[0x00, 0x00, 0x61, 1, 2, 3, 0, 0xa0],

@@ -18,7 +18,8 @@ const ZEROS: [u8; 8] = [0; 8];
 
 fn put_byte(out: &mut Out<'_>, byte: Option<u8>) -> Result<(), NoRoom>
     ensures same { out.new.bytes.ghost_name ≡ out.old.bytes.ghost_name }
-    ensures written { Writes (spot out.new) result (puts (where_some byte_field byte) (spot out.old)) }
+    ensures written { Writes (spot out.new) result
+        (puts (where_some byte_field byte) (spot out.old)) }
 {
     match byte {
         None => Ok(()),
@@ -28,7 +29,8 @@ fn put_byte(out: &mut Out<'_>, byte: Option<u8>) -> Result<(), NoRoom>
 
 fn put_number(out: &mut Out<'_>, number: Option<u16>) -> Result<(), NoRoom>
     ensures same { out.new.bytes.ghost_name ≡ out.old.bytes.ghost_name }
-    ensures written { Writes (spot out.new) result (puts (where_some number_field number) (spot out.old)) }
+    ensures written { Writes (spot out.new) result
+        (puts (where_some number_field number) (spot out.old)) }
 {
     match number {
         None => Ok(()),
@@ -38,7 +40,8 @@ fn put_number(out: &mut Out<'_>, number: Option<u16>) -> Result<(), NoRoom>
 
 fn put_delay(out: &mut Out<'_>, delay: Option<DelayInfo>) -> Result<(), NoRoom>
     ensures same { out.new.bytes.ghost_name ≡ out.old.bytes.ghost_name }
-    ensures written { Writes (spot out.new) result (puts (where_some delay_fields (option_map delay_of delay)) (spot out.old)) }
+    ensures written { Writes (spot out.new) result
+        (puts (where_some delay_fields (option_map delay_of delay)) (spot out.old)) }
 {
     match delay {
         None => Ok(()),
@@ -52,7 +55,8 @@ fn put_delay(out: &mut Out<'_>, delay: Option<DelayInfo>) -> Result<(), NoRoom>
 fn put_ack(out: &mut Out<'_>, ack: &Ack2<'_>) -> Result<(), NoRoom>
     requires { IsAck (ack_of ack.now) }
     ensures same { out.new.bytes.ghost_name ≡ out.old.bytes.ghost_name }
-    ensures written { Writes (spot out.new) result (puts (ack_fields (ack_of ack.now)) (spot out.old)) }
+    ensures written { Writes (spot out.new) result
+        (puts (ack_fields (ack_of ack.now)) (spot out.old)) }
 {
     out.put_u16_le(ack.number)?;
     out.put_u24_le(ack.received_ts)?;
@@ -64,7 +68,8 @@ fn put_ack(out: &mut Out<'_>, ack: &Ack2<'_>) -> Result<(), NoRoom>
 fn put_stamp(out: &mut Out<'_>, stamp: Option<Stamp2>) -> Result<(), NoRoom>
     requires { IfSome (option_map stamp_of stamp) IsStamp }
     ensures same { out.new.bytes.ghost_name ≡ out.old.bytes.ghost_name }
-    ensures written { Writes (spot out.new) result (puts (where_some stamp_fields (option_map stamp_of stamp)) (spot out.old)) }
+    ensures written { Writes (spot out.new) result
+        (puts (where_some stamp_fields (option_map stamp_of stamp)) (spot out.old)) }
 {
     match stamp {
         None => Ok(()),
@@ -79,7 +84,8 @@ fn put_stamp(out: &mut Out<'_>, stamp: Option<Stamp2>) -> Result<(), NoRoom>
 fn put_vector(out: &mut Out<'_>, vector: &Vector2<'_>) -> Result<(), NoRoom>
     requires { IsVector (vector_of vector.now) }
     ensures same { out.new.bytes.ghost_name ≡ out.old.bytes.ghost_name }
-    ensures written { Writes (spot out.new) result (puts (vector_fields (vector_of vector.now)) (spot out.old)) }
+    ensures written { Writes (spot out.new) result
+        (puts (vector_fields (vector_of vector.now)) (spot out.old)) }
 {
     let highest = if vector.stamp.is_some() { 128 } else { 0 };
     out.put_u16_le(vector.base)?;
@@ -91,7 +97,8 @@ fn put_vector(out: &mut Out<'_>, vector: &Vector2<'_>) -> Result<(), NoRoom>
 fn put_told_ack(out: &mut Out<'_>, telling: &Telling2<'_>) -> Result<(), NoRoom>
     requires { IfSome (ack_in (telling_of telling.now)) IsAck }
     ensures same { out.new.bytes.ghost_name ≡ out.old.bytes.ghost_name }
-    ensures written { Writes (spot out.new) result (puts (where_some ack_fields (ack_in (telling_of telling.now))) (spot out.old)) }
+    ensures written { Writes (spot out.new) result
+        (puts (where_some ack_fields (ack_in (telling_of telling.now))) (spot out.old)) }
 {
     match telling {
         Telling2::Ack(ack) => put_ack(out, ack),
@@ -102,7 +109,8 @@ fn put_told_ack(out: &mut Out<'_>, telling: &Telling2<'_>) -> Result<(), NoRoom>
 fn put_told_vector(out: &mut Out<'_>, telling: &Telling2<'_>) -> Result<(), NoRoom>
     requires { IfSome (vector_in (telling_of telling.now)) IsVector }
     ensures same { out.new.bytes.ghost_name ≡ out.old.bytes.ghost_name }
-    ensures written { Writes (spot out.new) result (puts (where_some vector_fields (vector_in (telling_of telling.now))) (spot out.old)) }
+    ensures written { Writes (spot out.new) result
+        (puts (where_some vector_fields (vector_in (telling_of telling.now))) (spot out.old)) }
 {
     match telling {
         Telling2::Vector(vector) => put_vector(out, vector),
@@ -134,7 +142,8 @@ fn part_in(body: &Body2<'_>) -> Option<u16>
 fn put_announced(out: &mut Out<'_>, packet: &Packet2<'_>) -> Result<(), NoRoom>
     requires { IsPacket (packet_of packet.now) }
     ensures same { out.new.bytes.ghost_name ≡ out.old.bytes.ghost_name }
-    ensures written { Writes (spot out.new) result (puts (announced_fields (packet_of packet.now)) (spot out.old)) }
+    ensures written { Writes (spot out.new) result
+        (puts (announced_fields (packet_of packet.now)) (spot out.old)) }
 {
     put_told_ack(out, &packet.telling)?;
     put_byte(out, packet.overhead)?;
@@ -153,7 +162,8 @@ fn flag_if(set: bool, flag: u16) -> u16
 }
 
 fn told_flag(telling: &Telling2<'_>) -> u16
-    ensures { result ≡ flag_if (is_some (ack_in (telling_of telling.now))) 0x001 + flag_if (is_some (vector_in (telling_of telling.now))) 0x008 }
+    ensures { result ≡ flag_if (is_some (ack_in (telling_of telling.now))) 0x001
+        + flag_if (is_some (vector_in (telling_of telling.now))) 0x008 }
 {
     match telling {
         Telling2::Nothing => 0,
@@ -175,7 +185,8 @@ fn flags_of(packet: &Packet2<'_>) -> u16
 
 fn put_rest(out: &mut Out<'_>, body: &Body2<'_>) -> Result<(), NoRoom>
     ensures same { out.new.bytes.ghost_name ≡ out.old.bytes.ghost_name }
-    ensures written { Writes (spot out.new) result (puts (rest_in (body_of body.now) ∷ []) (spot out.old)) }
+    ensures written { Writes (spot out.new) result
+        (puts (rest_in (body_of body.now) ∷ []) (spot out.old)) }
 {
     match *body {
         Body2::Nothing => out.put(&[]),
@@ -189,7 +200,8 @@ fn put_rest(out: &mut Out<'_>, body: &Body2<'_>) -> Result<(), NoRoom>
 fn put_packet(out: &mut Out<'_>, packet: &Packet2<'_>) -> Result<(), NoRoom>
     requires { IsPacket (packet_of packet.now) }
     ensures same { out.new.bytes.ghost_name ≡ out.old.bytes.ghost_name }
-    ensures written { Writes (spot out.new) result (puts (all_fields (packet_of packet.now)) (spot out.old)) }
+    ensures written { Writes (spot out.new) result
+        (puts (all_fields (packet_of packet.now)) (spot out.old)) }
 {
     let window = u16::from(packet.log_window);
     out.put_u16_le(flags_of(packet) + 0x1000 * window)?;
@@ -240,7 +252,8 @@ fn write_plain(out: &mut [u8], packet: &Packet2<'_>) -> Result<(usize, usize), N
     ensures ends { IfOk result (λ r. r.0 ≡ 1 + length (text (packet_of packet.now))) }
     ensures ok { let bytes = joined (plain_fields (packet_of packet.now)) in
         IfOk result (λ r. (r.1 ≡ length bytes) × (out.new ≡ bytes ++ drop r.1 out.old)) }
-    ensures no_room { IfErr result (λ e. puts (plain_fields (packet_of packet.now)) (record { before = []; after = out.old }) ≡ Err e) }
+    ensures no_room { IfErr result (λ e. puts (plain_fields (packet_of packet.now))
+        (record { before = []; after = out.old }) ≡ Err e) }
 {
     let mut place = Out::new(out);
     let end = put_plain(&mut place, packet)?;
@@ -258,7 +271,8 @@ pub fn write2(packet: &Packet2<'_>, out: &mut [u8; 1232]) -> Result<usize, NoRoo
     requires { IsPacket (packet_of packet.now) }
     ensures ok { let datagram = spelled (packet_of packet.now) in
         IfOk result (λ n. (n ≡ length datagram) × (out.new ≡ datagram ++ drop n out.old)) }
-    ensures no_room { IfErr result (λ e. puts (written_fields (packet_of packet.now)) (record { before = []; after = out.old }) ≡ Err e) }
+    ensures no_room { IfErr result (λ e. puts (written_fields (packet_of packet.now))
+        (record { before = []; after = out.old }) ≡ Err e) }
     ensures fits { OnOk result (length (spelled (packet_of packet.now)) ≤ 1232) }
     ensures too_long { OnErr result (1232 < length (spelled (packet_of packet.now))) }
 {
