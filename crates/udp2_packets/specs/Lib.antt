@@ -1,0 +1,6 @@
+pub mod Value
+pub mod Views
+pub mod Layout
+pub mod Faults
+pub mod Reading
+pub mod Filling
