@@ -56,15 +56,18 @@ kept_before (l ∷ ls) (x ∷ xs) h = All-cons Keeps l ls (h.0.asked, h.0.is_ask
 -- a line that is refused
 pub stops : (text rest line after : List ℕ) (number : ℕ) (old new : List ℕ) (r : ShowRefusal) → IsShort text → SoFar text rest number old → lines_of rest ≡ line ∷ lines_of after
     → AddsLine line (number + 1) old new (Err r) → Shows text (Err r)
-stops text rest line after number old new (BadLine n) short s cut adds = (short, record {
-  before = s.before;
-  line = line;
-  after = lines_of after;
-  parts = s.parts ∙ ap (λ ls. s.before ++ ls) cut;
-  kept = kept_before s.before s.answers s.answered;
-  broken = adds.1;
-  number_is = adds.0 ∙ ap (λ k. k + 1) s.counted;
-})
+stops text rest line after number old new (BadLine n) short s cut adds = (
+  short,
+  record {
+    before = s.before;
+    line = line;
+    after = lines_of after;
+    parts = s.parts ∙ ap (λ ls. s.before ++ ls) cut;
+    kept = kept_before s.before s.answers s.answered;
+    broken = adds.1;
+    number_is = adds.0 ∙ ap (λ k. k + 1) s.counted;
+  },
+)
 stops text rest line after number old new (TooManyLines limit) short s cut adds = absurd adds
 stops text rest line after number old new NoMemory short s cut adds = tt
 

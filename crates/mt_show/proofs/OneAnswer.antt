@@ -63,15 +63,18 @@ one_more : (line : List ℕ) (lines : List (List ℕ)) → Keeps line → ToldLi
 one_more line lines keeps (inl all) = inl (All-cons Keeps line lines keeps all)
 one_more line lines keeps (inr f) =
     let place = f.1.number_is in
-    inr (f.0 + 1, record {
-      before = line ∷ f.1.before;
-      line = f.1.line;
-      after = f.1.after;
-      parts = ap (λ ls. line ∷ ls) f.1.parts;
-      kept = All-cons Keeps line f.1.before keeps f.1.kept;
-      broken = f.1.broken;
-      number_is = omega arith;
-    })
+    inr (
+      f.0 + 1,
+      record {
+        before = line ∷ f.1.before;
+        line = f.1.line;
+        after = f.1.after;
+        parts = ap (λ ls. line ∷ ls) f.1.parts;
+        kept = All-cons Keeps line f.1.before keeps f.1.kept;
+        broken = f.1.broken;
+        number_is = omega arith;
+      },
+    )
 
 first_line : (line : List ℕ) (lines : List (List ℕ)) → Keeps line ⊎ Breaks line → ToldLines lines → ToldLines (line ∷ lines)
 first_line line lines (inl keeps) rest = one_more line lines keeps rest

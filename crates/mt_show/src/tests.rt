@@ -101,12 +101,17 @@ fn shows_faults(rt: HostRuntime) -> Result<(), Fail> {
 
 #[test]
 fn answers_each_line(rt: HostRuntime) -> Result<(), Fail> {
-    let short = b"v1 refused Short at 0\n";
-    let rows: [(&[u8], usize); 4] = [(b"", 0), (b"v1 -", 1), (b"v1 -\n", 1), (b"v1 -\nv1 00", 2)];
-    for (text, lines) in rows {
-        let shown = show(rt.alloc(), text)?;
-        assert_eq!(rt; shown.bytes().len(), lines * short.len());
-        assert!(rt; shown.bytes().chunks(short.len()).all(|line| line == short));
+    let rows: [(&[u8], &[u8]); 4] = [
+        (b"", b""),
+        (b"v1 -", b"v1 refused Short at 0\n"),
+        (b"v1 -\n", b"v1 refused Short at 0\n"),
+        (
+            b"v1 0000000000000000\nv1 00",
+            b"v1 ack=0 window=0 marks=0000 bare rest=0\nv1 refused Short at 0\n",
+        ),
+    ];
+    for (text, answers) in rows {
+        assert_eq!(rt; show(rt.alloc(), text)?.bytes(), answers);
     }
     Ok(())
 }
@@ -140,9 +145,7 @@ fn refuses_other_lines(rt: HostRuntime) -> Result<(), Fail> {
 fn counts_lines_first(rt: HostRuntime) -> Result<(), Fail> {
     let text = vec![in rt.alloc(); b'\n'; 4_000_001]?;
     match show(rt.alloc(), &text) {
-        Err(refusal) => {
-            assert_eq!(rt; refusal, ShowRefusal::TooManyLines { limit: 4_000_000 })
-        }
+        Err(refusal) => { assert_eq!(rt; refusal, ShowRefusal::TooManyLines { limit: 4_000_000 }) }
         Ok(_) => assert!(rt; false, "a text has too many lines"),
     }
     Ok(())

@@ -50,12 +50,7 @@ fn show_lines(alloc: Global, text: &[u8]) -> Result<Text, ShowRefusal>
 }
 
 /// Adds the answer to the line of this number, and its end.
-fn show_line(
-    out: &mut Output,
-    alloc: Global,
-    line: &[u8],
-    number: u64,
-) -> Result<(), ShowRefusal>
+fn show_line(out: &mut Output, alloc: Global, line: &[u8], number: u64) -> Result<(), ShowRefusal>
     ensures { AddsLine line.now number out.old.bytes.items out.new.bytes.items result }
 {
     match read_line(alloc, line) {
