@@ -1,12 +1,12 @@
 -- What handing out messages does to a side.
-use Rattle.std.proofs.Common.{◌≡◌, ℕ, List, [], ◌∷◌, ◌++◌, length, drop, refl, sym, ap, ◌∙◌, subst, append_assoc, append-nil, eqb}
+use Rattle.std.proofs.Common.{◌≡◌, ℕ, List, [], ◌∷◌, ◌++◌, length, drop, refl, sym, ap, ◌∙◌, subst, append_assoc, append-nil}
 use Rattle.std.specs.Global.{Vec}
 use Rattle.std.proofs.lemmas.List.{drop_at}
 use Rattle.mt_base.specs.declared.kinds.Role.{Role}
 use Rattle.mt_base.specs.Trace.{Trace, ◌▷◌}
 use Rattle.mt_world.specs.declared.end.End.{End}
 use Rattle.mt_world.specs.declared.side.Side.{Side}
-use Rattle.mt_world.specs.Acts.{Entry, Took, Past, past, given, taken, took, sent, delivered, waiting}
+use Rattle.mt_world.specs.Acts.{Entry, Took, Past, past, given, taken, took, sent, waiting}
 use Rattle.mt_world.specs.Play.{handed_out}
 use Rattle.mt_world.specs.EndView.{StandsFor}
 use Rattle.mt_world.specs.SideView.{StandsAt}

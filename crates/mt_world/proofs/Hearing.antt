@@ -1,16 +1,14 @@
 -- What an end hears: the PDUs in the bytes that it takes, whatever it does between.
-use Rattle.std.proofs.Common.{◌≡◌, ◌≢◌, ℕ, suc, ◌+◌, ◌*◌, ◌/◌, ◌%◌, ◌<◌, ◌≤◌, ◌^◌, Bool, true, false, eqb, ltb, cond, ◌&&◌, List, [], ◌∷◌, ◌++◌, length, take, drop, fold, Option, None, Some, Result, Ok, Err, refl, sym, ap, ◌∙◌, subst, append_assoc, append-nil, ne_eqb, eq-eqb, arith, length-append}
-use Rattle.std.specs.Prelude.{All}
+use Rattle.std.proofs.Common.{◌≡◌, ◌≢◌, ℕ, ◌+◌, ◌*◌, ◌/◌, ◌%◌, ◌<◌, ◌^◌, cond, List, [], ◌∷◌, ◌++◌, length, take, fold, Option, None, Some, Ok, refl, sym, ap, ◌∙◌, append_assoc, append-nil, ne_eqb, eq-eqb, arith, length-append}
 use Rattle.std.specs.List.{flat_map, AllByRecursion}
 use Rattle.std.proofs.lemmas.List.Sums.{fold-append}
 use Rattle.mt_base.specs.declared.kinds.Role.{Role}
 use Rattle.mt_base.specs.Ends.{other}
 use Rattle.mt_base.specs.Trace.{Trace, Start, ◌▷◌}
-use Rattle.byteorder.specs.Endian.{little_bytes}
 use Rattle.dvc_pdus.specs.Value.{Pdu, IsPdu, spelled}
 use Rattle.dvc_pdus.specs.Reading.{reading}
 use Rattle.mt_world.specs.Frames.{framed, frame_of, read_pdu}
-use Rattle.mt_world.specs.Acts.{Entry, Act, Made, Opened, Sent, MainIn, MainOut, Took, Began, Opens, Sends, Reads, Past, with_act, with_byte, with_frame, past, reads, taken}
+use Rattle.mt_world.specs.Acts.{Entry, Made, Opened, Sent, MainIn, MainOut, Took, Past, with_byte, with_frame, past, reads, taken}
 use Rattle.mt_world.specs.Net.{IsPrefixOf}
 use Rattle.mt_world.proofs.Fronts.{front-trans, front-same, front-append}
 

@@ -1,20 +1,17 @@
 -- Each PDU that an end writes is one that it may send.
-use Rattle.std.proofs.Common.{◌≡◌, ℕ, ◌+◌, ◌*◌, ◌<◌, ◌≤◌, ◌^◌, Bool, true, false, eqb, ltb, cond, ◌&&◌, List, [], ◌∷◌, ◌++◌, length, take, drop, fold, Option, None, Some, Result, Ok, Err, refl, sym, ap, ◌∙◌, subst, arith, length-append, lit<, lit≤}
-use Rattle.std.specs.Prelude.{All}
-use Rattle.std.specs.List.{flat_map, AllByRecursion}
+use Rattle.std.proofs.Common.{◌≡◌, ℕ, ◌+◌, ◌*◌, ◌<◌, ◌≤◌, ◌^◌, Bool, true, false, eqb, ltb, cond, ◌&&◌, List, [], ◌∷◌, ◌++◌, length, take, fold, Option, None, Some, Result, Ok, Err, refl, sym, subst, arith, length-append, lit<, lit≤}
+use Rattle.std.specs.List.{AllByRecursion}
 use Rattle.std.proofs.lemmas.List.Elements.{All-nil, All-cons, All-append, All-take, All-drop, recursion_from_All, All-from_recursion}
 use Rattle.byteorder.specs.Endian.{little_bytes}
 use Rattle.mt_base.specs.declared.kinds.Role.{Role}
 use Rattle.mt_base.specs.declared.kinds.Role.TheVariants.{Server, Client}
 use Rattle.mt_base.specs.Ends.{other}
 use Rattle.mt_base.specs.Trace.{Trace, Start, ◌▷◌}
-use Rattle.mt_base.specs.Writing.{joined}
 use Rattle.dvc_pdus.specs.declared.pdu.DvcRefusal.{DvcRefusal}
-use Rattle.dvc_pdus.specs.Value.{Pdu, Caps, CreateRequest, CreateResponse, Data, Fits, IsPdu, IsName, spelled, fields, smallest}
+use Rattle.dvc_pdus.specs.Value.{Pdu, Caps, CreateRequest, CreateResponse, Data, Fits, IsPdu, IsName, spelled, smallest}
 use Rattle.dvc_pdus.specs.Reading.{reading}
-use Rattle.dvc_pdus.proofs.Theorems.{was_spelled}
-use Rattle.mt_world.specs.Frames.{framed, frame_of, read_pdu}
-use Rattle.mt_world.specs.Acts.{Entry, Act, Made, Opened, Sent, MainIn, MainOut, Took, Began, Opens, Sends, Reads, Past, with_act, with_byte, with_frame, past, adds, reply, outgoing, written}
+use Rattle.mt_world.specs.Frames.{frame_of, read_pdu}
+use Rattle.mt_world.specs.Acts.{Entry, Act, Made, Opened, Sent, MainIn, MainOut, Took, Began, Opens, Sends, Past, with_act, with_byte, with_frame, past, adds, reply, outgoing}
 use Rattle.mt_world.specs.Ends.{EndTrace, IsBytes, channel_limit}
 
 -- The recursion of `All`, which goes through appends.
@@ -41,21 +38,27 @@ request_short id name h =
     let k = smallest_short id in
     omega (arith, k, h, length-append (smallest id) (name ++ (0 ∷ [] ++ [])), length-append name (0 ∷ []))
 
--- what is read of a frame was spelled by an end that may write it
-read_fits : (from : Role) (bytes : List ℕ) (pdu : Pdu) (answer : Result Pdu DvcRefusal) → IsBytes bytes → reading from bytes ≡ answer → read_pdu answer ≡ Some pdu → Fits from pdu
-read_fits from bytes pdu (Ok found) all is some =
-    let same : found ≡ pdu = cc in
-    subst (λ x. Fits from x) same (was_spelled from bytes found all is).0.fits
-read_fits from bytes pdu (Err refusal) all is none = cc
+-- What is known of channel PDUs: what is read is one that the layout has, and what may be sent is
+-- read back.
+pub record PduLaws : Type 0 where
+  pub fits : (from : Role) (bytes : List ℕ) (pdu : Pdu) → IsBytes bytes → reading from bytes ≡ Ok pdu → Fits from pdu
+  pub back : (from : Role) (pdu : Pdu) → IsPdu from pdu → reading from (spelled pdu) ≡ Ok pdu
 
-frame_fits : (from : Role) (bytes : List ℕ) (pdu : Pdu) → IsBytes bytes → frame_of from bytes ≡ Some pdu → Fits from pdu
+-- what is read of a frame was spelled by an end that may write it
+read_fits : (laws : PduLaws) → (from : Role) (bytes : List ℕ) (pdu : Pdu) (answer : Result Pdu DvcRefusal) → IsBytes bytes → reading from bytes ≡ answer → read_pdu answer ≡ Some pdu → Fits from pdu
+read_fits laws from bytes pdu (Ok found) all is some =
+    let same : found ≡ pdu = cc in
+    subst (λ x. Fits from x) same (laws.fits from bytes found all is)
+read_fits laws from bytes pdu (Err refusal) all is none = cc
+
+frame_fits : (laws : PduLaws) → (from : Role) (bytes : List ℕ) (pdu : Pdu) → IsBytes bytes → frame_of from bytes ≡ Some pdu → Fits from pdu
 unfolding frame_of
-frame_fits from [] pdu all is = cc
-frame_fits from (a ∷ []) pdu all is = cc
-frame_fits from (a ∷ b ∷ []) pdu all is = cc
-frame_fits from (kind ∷ low ∷ high ∷ text) pdu all is = by_test (eqb kind 3 && eqb (low + 256 * high) (length text)) is where
+frame_fits laws from [] pdu all is = cc
+frame_fits laws from (a ∷ []) pdu all is = cc
+frame_fits laws from (a ∷ b ∷ []) pdu all is = cc
+frame_fits laws from (kind ∷ low ∷ high ∷ text) pdu all is = by_test (eqb kind 3 && eqb (low + 256 * high) (length text)) is where
   by_test : (b : Bool) → cond b (read_pdu (reading from text)) None ≡ Some pdu → Fits from pdu
-  by_test true h = read_fits from text pdu (reading from text) (All-drop (λ b. b < 2 ^ 8) 3 (kind ∷ low ∷ high ∷ text) all) refl h
+  by_test true h = read_fits laws from text pdu (reading from text) (All-drop (λ b. b < 2 ^ 8) 3 (kind ∷ low ∷ high ∷ text) all) refl h
   by_test false h = cc
 
 -- what an end answers to a PDU of the other end
@@ -79,15 +82,15 @@ frame_sound role p part (Some pdu) all fits s = record {
   out = all-append (IsPdu role) (outgoing role p.acts) (reply pdu role) s.out (reply_fits role pdu (fits pdu refl));
 }
 
-byte_sound : (role : Role) (p : Past) (byte : ℕ) → byte < 2 ^ 8 → IsSound role p → IsSound role (with_byte role p byte)
+byte_sound : (laws : PduLaws) → (role : Role) (p : Past) (byte : ℕ) → byte < 2 ^ 8 → IsSound role p → IsSound role (with_byte role p byte)
 unfolding with_byte
-byte_sound role p byte small s =
+byte_sound laws role p byte small s =
     let all = All-append (λ b. b < 2 ^ 8) p.part (byte ∷ []) s.part (All-cons (λ b. b < 2 ^ 8) byte [] small (All-nil (λ b. b < 2 ^ 8))) in
-    frame_sound role p (p.part ++ byte ∷ []) (frame_of (other role) (p.part ++ byte ∷ [])) all (λ pdu is. frame_fits (other role) (p.part ++ byte ∷ []) pdu all is) s
+    frame_sound role p (p.part ++ byte ∷ []) (frame_of (other role) (p.part ++ byte ∷ [])) all (λ pdu is. frame_fits laws (other role) (p.part ++ byte ∷ []) pdu all is) s
 
-bytes_sound : (role : Role) (p : Past) (bytes : List ℕ) → AllByRecursion (λ b. b < 2 ^ 8) bytes → IsSound role p → IsSound role (fold (with_byte role) p bytes)
-bytes_sound role p [] all s = s
-bytes_sound role p (b ∷ bs) all s = bytes_sound role (with_byte role p b) bs all.1 (byte_sound role p b all.0 s)
+bytes_sound : (laws : PduLaws) → (role : Role) (p : Past) (bytes : List ℕ) → AllByRecursion (λ b. b < 2 ^ 8) bytes → IsSound role p → IsSound role (fold (with_byte role) p bytes)
+bytes_sound laws role p [] all s = s
+bytes_sound laws role p (b ∷ bs) all s = bytes_sound laws role (with_byte role p b) bs all.1 (byte_sound laws role p b all.0 s)
 
 -- one more act of the end's own
 act_sound : (role : Role) (p : Past) (act : Act) → AllByRecursion (IsPdu role) (adds act role) → IsSound role p → IsSound role (with_act p act)
@@ -103,12 +106,12 @@ opens_fits role id name is small named =
     subst P (sym is) ((omega arith, lit< tt, named), request_short id name named.1)
 
 -- an end's past is sound
-pub end_sound : (role : Role) (t : Trace Entry) → EndTrace role t → IsSound role (past role t)
-end_sound role Start h = record { part = All-nil (λ b. b < 2 ^ 8); out = tt }
-end_sound role (t ▷ Made) h = act_sound role (past role t) Began (began_fits role) (end_sound role t h.1)
-end_sound role (t ▷ Opened id name) h = act_sound role (past role t) (Opens id name) (opens_fits role id name h.0 h.2 h.3, tt) (end_sound role t h.4)
-end_sound role (t ▷ Sent id message) h = act_sound role (past role t) (Sends id message) (h.1, tt) (end_sound role t h.2)
-end_sound role (t ▷ MainIn offered count) h =
-    bytes_sound role (past role t) (take count offered) (recursion_from_All (λ b. b < 2 ^ 8) (take count offered) (All-take (λ b. b < 2 ^ 8) count offered h.0)) (end_sound role t h.2)
-end_sound role (t ▷ MainOut room bytes) h = end_sound role t h.1
-end_sound role (t ▷ Took id message) h = end_sound role t h.1
+pub end_sound : (laws : PduLaws) → (role : Role) (t : Trace Entry) → EndTrace role t → IsSound role (past role t)
+end_sound laws role Start h = record { part = All-nil (λ b. b < 2 ^ 8); out = tt }
+end_sound laws role (t ▷ Made) h = act_sound role (past role t) Began (began_fits role) (end_sound laws role t h.1)
+end_sound laws role (t ▷ Opened id name) h = act_sound role (past role t) (Opens id name) (opens_fits role id name h.0 h.2 h.3, tt) (end_sound laws role t h.4)
+end_sound laws role (t ▷ Sent id message) h = act_sound role (past role t) (Sends id message) (h.1, tt) (end_sound laws role t h.2)
+end_sound laws role (t ▷ MainIn offered count) h =
+    bytes_sound laws role (past role t) (take count offered) (recursion_from_All (λ b. b < 2 ^ 8) (take count offered) (All-take (λ b. b < 2 ^ 8) count offered h.0)) (end_sound laws role t h.2)
+end_sound laws role (t ▷ MainOut room bytes) h = end_sound laws role t h.1
+end_sound laws role (t ▷ Took id message) h = end_sound laws role t h.1

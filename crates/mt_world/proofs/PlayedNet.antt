@@ -1,7 +1,7 @@
 -- Play's lists are two ends and the stream between them.
-use Rattle.std.proofs.Common.{◌≡◌, ◌≢◌, ℕ, suc, ◌+◌, ◌-◌, ◌<◌, ◌≤◌, ◌^◌, Bool, true, false, eqb, ltb, leb, cond, not, ◌&&◌, List, [], ◌∷◌, ◌++◌, length, take, drop, fold, Option, None, Some, Result, Ok, Err, refl, sym, ap, ◌∙◌, subst, arith, length-append, append-nil, lit<, lt-ltb}
-use Rattle.std.specs.Prelude.{All, slice_get}
-use Rattle.std.specs.List.{flat_map, AllByRecursion}
+use Rattle.std.proofs.Common.{◌≡◌, ℕ, ◌+◌, ◌<◌, ◌≤◌, ◌^◌, Bool, true, false, ltb, cond, not, ◌&&◌, List, [], ◌∷◌, ◌++◌, length, take, drop, Option, None, Some, Result, Ok, Err, refl, sym, ap, ◌∙◌, subst, arith, length-append, append-nil, lt-ltb}
+use Rattle.std.specs.Prelude.{slice_get}
+use Rattle.std.specs.List.{AllByRecursion}
 use Rattle.std.proofs.lemmas.List.{take_all, drop-drop, length_push}
 use Rattle.std.proofs.lemmas.List.Elements.{All-from_recursion, All-drop}
 use Rattle.std.proofs.lemmas.Bool.{ltb-false, leb-false, leb-true}
@@ -14,22 +14,22 @@ use Rattle.mt_script.specs.declared.event.Event.{Event}
 use Rattle.mt_script.specs.declared.event.Event.TheVariants as event
 use Rattle.mt_script.specs.declared.event.Line.{Line}
 use Rattle.mt_script.specs.Lines.{lines_of}
-use Rattle.mt_script.specs.Meaning.{Means, Does, Do, numbered, ReadsAs}
+use Rattle.mt_script.specs.Meaning.{Do, numbered, ReadsAs}
 use Rattle.mt_script.specs.Spelling.{IsEvent}
-use Rattle.dvc_pdus.specs.Value.{Data, IsPdu, IsName, spelled, smallest}
+use Rattle.dvc_pdus.specs.Value.{Data, spelled, smallest}
 use Rattle.mt_world.specs.declared.channel.ChannelState.{ChannelState}
 use Rattle.mt_world.specs.declared.channel.ChannelState.TheVariants as state
 use Rattle.mt_world.specs.declared.refusal.StepRefusal.{StepRefusal}
 use Rattle.mt_world.specs.declared.refusal.StepRefusal.TheVariants as step
 use Rattle.mt_world.specs.declared.refusal.SendRefusal.{SendRefusal}
 use Rattle.mt_world.specs.declared.refusal.OpenRefusal.{OpenRefusal}
-use Rattle.mt_world.specs.Acts.{Entry, Act, Made, Opened, Sent, MainIn, MainOut, Took, past, names, channel, written, unsent, given, taken, took, waiting, delivered}
+use Rattle.mt_world.specs.Acts.{Entry, Made, Opened, Sent, MainIn, MainOut, Took, past, names, channel, written, unsent, given, taken, took, waiting, delivered}
 use Rattle.mt_world.specs.Ends.{EndTrace, IsBytes, channel_limit}
 use Rattle.mt_world.specs.Net.{Net, at, acts_of}
-use Rattle.mt_world.specs.Play.{Ending, RefusedAt, ◌or_else◌, when, name_fault, bad_name, open_refusal_of, state_refusal, send_refusal_of, message_limit, is_made, refused_open, refused_send, unless, calls, handed, handed_out, all_taken, then_taken, played, start, play}
+use Rattle.mt_world.specs.Play.{Ending, RefusedAt, ◌or_else◌, when, name_fault, bad_name, open_refusal_of, state_refusal, send_refusal_of, message_limit, is_made, refused_open, refused_send, unless, calls, handed_out, all_taken, then_taken, played, start, play}
 use Rattle.mt_world.proofs.Names.{no_cause, when_not, name_from_no_fault}
 use Rattle.mt_world.proofs.ReadBytes.{names-reads}
-use Rattle.mt_world.proofs.Outgoing.{end_sound}
+use Rattle.mt_world.proofs.Outgoing.{PduLaws, end_sound}
 use Rattle.mt_world.proofs.SpelledBytes.{frames_bytes}
 use Rattle.mt_world.proofs.Hands.{given-handed_out, taken-handed_out}
 use Rattle.mt_world.proofs.Sides.{server-all_taken, client-all_taken}
@@ -53,11 +53,11 @@ pub start_good : IsGood start
 start_good = record { server = (refl, tt); client = (refl, tt); to_server = refl; to_client = refl }
 
 -- the bytes that wait for the main stream are bytes
-unsent_bytes : (role : Role) (t : Trace Entry) → EndTrace role t → IsBytes (unsent role t)
+unsent_bytes : (laws : PduLaws) → (role : Role) (t : Trace Entry) → EndTrace role t → IsBytes (unsent role t)
 unfolding written
-unsent_bytes role t h =
+unsent_bytes laws role t h =
     All-drop (λ b. b < 2 ^ 8) (length (given t)) (written role (past role t).acts)
-    (All-from_recursion (λ b. b < 2 ^ 8) (written role (past role t).acts) (frames_bytes role _ (end_sound role t h).out))
+    (All-from_recursion (λ b. b < 2 ^ 8) (written role (past role t).acts) (frames_bytes role _ (end_sound laws role t h).out))
 
 -- what moves from one end to the other
 moves_out : (role : Role) (t : Trace Entry) → EndTrace role t → EndTrace role (t ▷ MainOut (length (unsent role t)) (unsent role t))
@@ -69,15 +69,15 @@ moves_in role t bytes all h = (all, refl, h)
 arrives : (here there bytes : List ℕ) → here ≡ there → here ++ take (length bytes) bytes ≡ there ++ bytes
 arrives here there bytes same = ap (λ x. here ++ x) (take_all (length bytes) bytes (omega arith)) ∙ ap (λ x. x ++ bytes) same
 
-main_good : (side : Role) (w : Trace (Role × Entry)) → IsGood w → IsGood (w ▷ (side, MainOut (length (unsent side (at side w))) (unsent side (at side w))) ▷ (other side, MainIn (unsent side (at side w)) (length (unsent side (at side w)))))
-main_good Server w g = record {
+main_good : (laws : PduLaws) → (side : Role) (w : Trace (Role × Entry)) → IsGood w → IsGood (w ▷ (side, MainOut (length (unsent side (at side w))) (unsent side (at side w))) ▷ (other side, MainIn (unsent side (at side w)) (length (unsent side (at side w)))))
+main_good laws Server w g = record {
   server = moves_out Server (at Server w) g.server;
-  client = moves_in Client (at Client w) (unsent Server (at Server w)) (unsent_bytes Server (at Server w) g.server) g.client;
+  client = moves_in Client (at Client w) (unsent Server (at Server w)) (unsent_bytes laws Server (at Server w) g.server) g.client;
   to_server = g.to_server;
   to_client = arrives (taken (at Client w)) (given (at Server w)) (unsent Server (at Server w)) g.to_client;
 }
-main_good Client w g = record {
-  server = moves_in Server (at Server w) (unsent Client (at Client w)) (unsent_bytes Client (at Client w) g.client) g.server;
+main_good laws Client w g = record {
+  server = moves_in Server (at Server w) (unsent Client (at Client w)) (unsent_bytes laws Client (at Client w) g.client) g.server;
   client = moves_out Client (at Client w) g.client;
   to_server = arrives (taken (at Server w)) (given (at Client w)) (unsent Client (at Client w)) g.to_server;
   to_client = g.to_client;
@@ -192,23 +192,23 @@ unless_ok : (cause : Option StepRefusal) (x v : Trace (Role × Entry)) → unles
 unless_ok None x v h = (refl, cc)
 unless_ok (Some cause) x v h = cc
 
-calls_good : (w v : Trace (Role × Entry)) (e : Event) → IsGood w → IsEvent e → calls w e ≡ Ok v → IsGood v
-calls_good w v (event.Open name) g is h =
+calls_good : (laws : PduLaws) → (w v : Trace (Role × Entry)) (e : Event) → IsGood w → IsEvent e → calls w e ≡ Ok v → IsGood v
+calls_good laws w v (event.Open name) g is h =
     let u = unless_ok _ _ v h in
     subst IsGood u.1 (open_good w name g (not_refused_open (open_refusal_of (acts_of Server w) name) u.0))
-calls_good w v (event.Send side id message) g is h =
+calls_good laws w v (event.Send side id message) g is h =
     let u = unless_ok _ _ v h in
     subst IsGood u.1 (send_good side w id message g is u.0)
-calls_good w v (event.Main side) g is h =
+calls_good laws w v (event.Main side) g is h =
     let bytes = unsent side (at side w) in
     let same : w ▷ (side, MainOut (length bytes) bytes) ▷ (other side, MainIn bytes (length bytes)) ≡ v = cc in
-    subst IsGood same (main_good side w g)
+    subst IsGood same (main_good laws side w g)
 
-then_good : (w v : Trace (Role × Entry)) (e : Event) (answer : Result (Trace (Role × Entry)) StepRefusal) → IsGood w → IsEvent e → calls w e ≡ answer → then_taken answer ≡ Ok v → IsGood v
-then_good w v e (Ok u) g is called h =
+then_good : (laws : PduLaws) → (w v : Trace (Role × Entry)) (e : Event) (answer : Result (Trace (Role × Entry)) StepRefusal) → IsGood w → IsEvent e → calls w e ≡ answer → then_taken answer ≡ Ok v → IsGood v
+then_good laws w v e (Ok u) g is called h =
     let same : all_taken Client (all_taken Server u) ≡ v = cc in
-    subst IsGood same (taken_good u (calls_good w u e g is called))
-then_good w v e (Err cause) g is called h = cc
+    subst IsGood same (taken_good u (calls_good laws w u e g is called))
+then_good laws w v e (Err cause) g is called h = cc
 
 after_line : (w : Trace (Role × Entry)) (lines : List Line) (number : ℕ) (answer : Result (Trace (Role × Entry)) StepRefusal)
     → ((v : Trace (Role × Entry)) → answer ≡ Ok v → IsGood (play v lines).0) → IsGood w
@@ -216,11 +216,11 @@ after_line : (w : Trace (Role × Entry)) (lines : List Line) (number : ℕ) (ans
 after_line w lines number (Ok v) goes g = goes v refl
 after_line w lines number (Err cause) goes g = g
 
-pub play_good : (lines : List Line) (w : Trace (Role × Entry)) → IsGood w → AllByRecursion (λ l. IsEvent l.event) lines → IsGood (play w lines).0
-play_good [] w g all = g
-play_good (next ∷ lines) w g all =
+pub play_good : (laws : PduLaws) → (lines : List Line) (w : Trace (Role × Entry)) → IsGood w → AllByRecursion (λ l. IsEvent l.event) lines → IsGood (play w lines).0
+play_good laws [] w g all = g
+play_good laws (next ∷ lines) w g all =
     after_line w lines next.number (played w next.event)
-    (λ v is. play_good lines v (then_good w v next.event (calls w next.event) g all.0 refl is) all.1) g
+    (λ v is. play_good laws lines v (then_good laws w v next.event (calls w next.event) g all.0 refl is) all.1) g
 
 -- the lines of a script are events
 events_of : (number : ℕ) (lines : List (List ℕ)) (does : List (Option Event)) → Do lines does → AllByRecursion (λ (l : Line). IsEvent l.event) (numbered number does)
@@ -233,5 +233,5 @@ events_of number (l ∷ lines) (Some e ∷ does) h = (h.0.0, events_of (number +
 pub script_events : (text : List ℕ) (lines : List Line) → ReadsAs text (Ok lines) → AllByRecursion (λ (l : Line). IsEvent l.event) lines
 script_events text lines h = subst (AllByRecursion (λ (l : Line). IsEvent l.event)) (sym h.3) (events_of 1 (lines_of text) h.1 h.2)
 
-pub plays_net : (text : List ℕ) (lines : List Line) → ReadsAs text (Ok lines) → Net (play start lines).0
-plays_net text lines h = net_from_good (play start lines).0 (play_good lines start start_good (script_events text lines h))
+pub plays_net : (laws : PduLaws) → (text : List ℕ) (lines : List Line) → ReadsAs text (Ok lines) → Net (play start lines).0
+plays_net laws text lines h = net_from_good (play start lines).0 (play_good laws lines start start_good (script_events text lines h))

@@ -1,22 +1,20 @@
 -- Two ends and the stream between them are safe.
-use Rattle.std.proofs.Common.{◌≡◌, ℕ, List, [], ◌∷◌, ◌++◌, length, take, drop, fold, Option, None, Some, refl, sym, ap, ◌∙◌, subst}
+use Rattle.std.proofs.Common.{◌≡◌, ℕ, List, [], ◌∷◌, ◌++◌, take, fold, Option, None, Some, refl, sym, ap, ◌∙◌}
 use Rattle.std.specs.List.{flat_map}
 use Rattle.std.proofs.lemmas.List.Sums.{fold-append}
 use Rattle.mt_base.specs.declared.kinds.Role.{Role}
-use Rattle.mt_base.specs.declared.kinds.Role.TheVariants.{Server, Client}
 use Rattle.mt_base.specs.Ends.{other}
 use Rattle.mt_base.specs.Trace.{Trace, Start, ◌▷◌}
-use Rattle.dvc_pdus.specs.Value.{Pdu, IsPdu, spelled}
-use Rattle.dvc_pdus.proofs.Theorems.{written_is_read}
+use Rattle.dvc_pdus.specs.Value.{Pdu}
 use Rattle.mt_world.specs.Frames.{framed, frame_of}
-use Rattle.mt_world.specs.Acts.{Entry, Act, Made, Opened, Sent, MainIn, MainOut, Took, Began, Opens, Sends, Reads, Past, past, with_byte, with_frame, written, outgoing, adds, given, taken, sent, delivered, message_in, reads, unsent}
+use Rattle.mt_world.specs.Acts.{Entry, Act, Made, Opened, Sent, MainIn, MainOut, Took, Began, Opens, Sends, Reads, Past, past, with_byte, with_frame, written, outgoing, adds, given, taken, sent, delivered, message_in, reads}
 use Rattle.mt_world.specs.Ends.{EndTrace}
-use Rattle.mt_world.specs.Net.{IsPrefixOf, Net, Safe, at, acts_of}
+use Rattle.mt_world.specs.Net.{IsPrefixOf}
 use Rattle.mt_world.proofs.Steps.{written-act}
-use Rattle.mt_world.proofs.Fronts.{front-same, front-append, front-trans, front-flat_map, front-next, front-at}
-use Rattle.mt_world.proofs.Hearing.{Heard, hear, heard_of, heard-past, hears-grow, hear-written}
+use Rattle.mt_world.proofs.Fronts.{front-same, front-trans, front-flat_map, front-next, front-at}
+use Rattle.mt_world.proofs.Hearing.{Heard, hear, heard-past, hears-grow, hear-written}
 use Rattle.mt_world.proofs.Messages.{messages_in, delivered-reads, sent-outgoing}
-use Rattle.mt_world.proofs.Outgoing.{end_sound}
+use Rattle.mt_world.proofs.Outgoing.{PduLaws, end_sound}
 
 -- what is written only grows
 act_grows : (role : Role) (acts : Trace Act) (act : Act) → IsPrefixOf (written role acts) (written role (acts ▷ act))
@@ -50,24 +48,24 @@ given-written role (t ▷ MainOut room bytes) h =
 given-written role (t ▷ Took id message) h = given-written role t h.1
 
 -- the PDUs that an end has read are the first of those that the other wrote
-pub reads-outgoing : (role : Role) (here there : Trace Entry) → EndTrace (other role) there → IsPrefixOf (taken here) (given there)
+pub reads-outgoing : (laws : PduLaws) → (role : Role) (here there : Trace Entry) → EndTrace (other role) there → IsPrefixOf (taken here) (given there)
     → IsPrefixOf (reads (past role here).acts) (outgoing (other role) (past (other role) there).acts)
 unfolding written
-reads-outgoing role here there h front =
+reads-outgoing laws role here there h front =
     let from = other role in
     let pdus = outgoing from (past from there).acts in
     let all = front-trans (taken here) (given there) (written from (past from there).acts) front (given-written from there h) in
     let so_far = fold (hear from) ([], []) (taken here) in
     let whole : fold (hear from) so_far all.0 ≡ (pdus, []) =
     sym (fold-append (hear from) ([], []) (taken here) all.0) ∙ ap (fold (hear from) ([], [])) (sym all.1)
-    ∙ hear-written from (written_is_read from) [] pdus (end_sound from there h).out in
+    ∙ hear-written from (laws.back from) [] pdus (end_sound laws from there h).out in
     front-at so_far.0 (reads (past role here).acts) (fold (hear from) so_far all.0).0 pdus
     (ap (λ (x : Heard). x.0) (sym (heard-past role here))) (ap (λ (x : Heard). x.0) whole) (hears-grow from so_far all.0)
 
 -- the messages that an end has had are the first of those that the other sent
-pub safe_one_way : (id : ℕ) (role : Role) (here there : Trace Entry) → EndTrace (other role) there → IsPrefixOf (taken here) (given there)
+pub safe_one_way : (laws : PduLaws) → (id : ℕ) (role : Role) (here there : Trace Entry) → EndTrace (other role) there → IsPrefixOf (taken here) (given there)
     → IsPrefixOf (delivered id (past role here).acts) (sent id (past (other role) there).acts)
-safe_one_way id role here there h front =
+safe_one_way laws id role here there h front =
     front-at (messages_in id (reads (past role here).acts)) (delivered id (past role here).acts) (messages_in id (outgoing (other role) (past (other role) there).acts)) (sent id (past (other role) there).acts)
     (sym (delivered-reads id (past role here).acts)) (sent-outgoing id (other role) (past (other role) there).acts)
-    (front-flat_map (message_in id) (reads (past role here).acts) (outgoing (other role) (past (other role) there).acts) (reads-outgoing role here there h front))
+    (front-flat_map (message_in id) (reads (past role here).acts) (outgoing (other role) (past (other role) there).acts) (reads-outgoing laws role here there h front))

@@ -3,7 +3,6 @@ use Rattle.std.proofs.Common.{◌≡◌, ℕ, List, [], ◌∷◌, refl, sym, ap
 use Rattle.mt_base.specs.declared.kinds.Role.{Role}
 use Rattle.mt_base.specs.declared.kinds.Role.TheVariants.{Server, Client}
 use Rattle.mt_base.specs.Trace.{Trace, ◌▷◌}
-use Rattle.mt_world.specs.declared.side.Side.{Side}
 use Rattle.mt_world.specs.declared.world.World.{World}
 use Rattle.mt_world.specs.Acts.{Entry, Took, waiting}
 use Rattle.mt_world.specs.Net.{at}

@@ -1,5 +1,5 @@
 -- What each act does to the relation between an end's value and its past.
-use Rattle.std.proofs.Common.{◌≡◌, ℕ, ◌+◌, Bool, true, false, eqb, cond, List, [], ◌∷◌, ◌++◌, length, Option, None, Some, Result, Ok, Err, OnOk, refl, sym, ap, ◌∙◌, subst, append_assoc, append-nil, arith, rules}
+use Rattle.std.proofs.Common.{◌≡◌, ℕ, ◌+◌, true, false, eqb, cond, List, [], ◌∷◌, ◌++◌, length, Option, None, Result, Ok, Err, OnOk, refl, sym, ap, ◌∙◌, subst, append_assoc, append-nil, arith}
 use Rattle.std.specs.List.{flat_map}
 use Rattle.std.specs.Global.{Vec}
 use Rattle.std.proofs.lemmas.Grind.{flat_map-append}
@@ -12,7 +12,7 @@ use Rattle.mt_world.specs.declared.channel.ChannelState.{ChannelState}
 use Rattle.mt_world.specs.declared.channel.ChannelState.TheVariants.{Open, Asked}
 use Rattle.mt_world.specs.declared.end.End.{End}
 use Rattle.mt_world.specs.Frames.{framed}
-use Rattle.mt_world.specs.Acts.{Act, Opens, Sends, Reads, Past, with_act, adds, outgoing, written, names, told, message_in, delivered, answered}
+use Rattle.mt_world.specs.Acts.{Act, Opens, Sends, Reads, Past, with_act, adds, outgoing, written, names, delivered, answered}
 use Rattle.mt_world.specs.EndView.{StandsFor}
 
 -- a fact that holds where a call went well, by another that does

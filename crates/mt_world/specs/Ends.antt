@@ -5,7 +5,7 @@ use Rattle.mt_base.specs.declared.kinds.Role.TheVariants.{Server}
 use Rattle.mt_base.specs.Trace.{Trace, Start, ◌▷◌}
 use Rattle.dvc_pdus.specs.Value.{Data, IsPdu, IsName}
 use Rattle.mt_world.specs.declared.channel.ChannelState.TheVariants.{Open}
-use Rattle.mt_world.specs.Acts.{Entry, Made, Opened, Sent, MainIn, MainOut, Took, past, channel, names, delivered, unsent, took, waiting}
+use Rattle.mt_world.specs.Acts.{Entry, Made, Opened, Sent, MainIn, MainOut, Took, past, channel, names, unsent, waiting}
 
 -- each is a byte
 abbrev pub IsBytes : List ℕ → Type 0

@@ -1,6 +1,6 @@
 -- The frames that carry channel PDUs on the main stream: kind 3, the PDU's length in two bytes, the
 -- lowest first, and the PDU. They stand in place of the transport of MS-RDPBCGR.
-use Rattle.std.specs.Prelude.{ℕ, ◌+◌, ◌*◌, ◌==◌, ◌&&◌, Bool, List, [], ◌∷◌, ◌++◌, length, Option, None, Some, Result, Ok, Err, if◌then◌else◌}
+use Rattle.std.specs.Prelude.{ℕ, ◌+◌, ◌*◌, ◌==◌, ◌&&◌, List, ◌∷◌, ◌++◌, length, Option, None, Some, Result, Ok, Err, if◌then◌else◌}
 use Rattle.byteorder.specs.Endian.{little_bytes}
 use Rattle.mt_base.specs.declared.kinds.Role.{Role}
 use Rattle.dvc_pdus.specs.declared.pdu.DvcRefusal.{DvcRefusal}

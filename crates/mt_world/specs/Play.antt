@@ -1,5 +1,5 @@
 -- Play: what the lines of a script do, as a list of calls of both sides and an end.
-use Rattle.std.specs.Prelude.{ℕ, ◌+◌, ◌==◌, ◌&&◌, ◌||◌, Bool, true, false, not, List, [], ◌∷◌, length, take, fold, nat_lt, nat_le, Option, None, Some, Result, Ok, Err, if◌then◌else◌}
+use Rattle.std.specs.Prelude.{ℕ, ◌+◌, ◌==◌, ◌&&◌, ◌||◌, Bool, true, false, not, List, [], ◌∷◌, length, take, fold, nat_lt, nat_le, Option, None, Some, Result, Ok, Err}
 use Rattle.std.specs.List.{position_from}
 use Rattle.mt_base.specs.declared.kinds.Role.{Role}
 use Rattle.mt_base.specs.declared.kinds.Role.TheVariants.{Server, Client}
@@ -17,7 +17,7 @@ use Rattle.mt_world.specs.declared.refusal.SendRefusal.TheVariants as send_refus
 use Rattle.mt_world.specs.declared.refusal.Refused.TheVariants as refused
 use Rattle.mt_world.specs.declared.refusal.StepRefusal.{StepRefusal}
 use Rattle.mt_world.specs.declared.refusal.StepRefusal.TheVariants as step
-use Rattle.mt_world.specs.Acts.{Entry, Act, Made, Opened, Sent, MainIn, MainOut, Took, past, names, is_ready, channel, unsent, waiting}
+use Rattle.mt_world.specs.Acts.{Entry, Act, Made, Opened, Sent, MainIn, MainOut, Took, names, is_ready, channel, unsent, waiting}
 use Rattle.mt_world.specs.Ends.{channel_limit}
 use Rattle.mt_world.specs.Net.{at, acts_of}
 

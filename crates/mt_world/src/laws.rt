@@ -12,11 +12,16 @@ ghost use Rattle.mt_world.specs.Net.{Net, Safe};
 ghost use Rattle.mt_world.specs.Play.{play, start};
 ghost use Rattle.mt_world.specs.Stream.{IsCut};
 
+use dvc_pdus::{reading_by_layout, written_is_read};
+
 /// Where both sides are ends, and each took the front of what left the other, the messages that
 /// came on a channel are the first of those that were sent on it, each once and in order.
 pub fn net_is_safe()
     ensures { (w : Trace (Role × Entry)) → Net w → Safe w }
-{}
+{
+    reading_by_layout();
+    written_is_read();
+}
 
 /// The list that Play gives for the lines of a script is that of two ends of which each took what
 /// left the other, and so the messages that came are the first of those that were sent.
@@ -25,6 +30,8 @@ pub fn plays_safely()
     ensures safe { (text : List ℕ) (lines : List Line) → ReadsAs text (Ok lines) → Safe (play start lines).0 }
 {
     net_is_safe();
+    reading_by_layout();
+    written_is_read();
 }
 
 /// What an end has read of the stream that it took is the longest list of whole frames at its front,

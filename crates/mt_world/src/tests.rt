@@ -279,3 +279,10 @@ fn refuses_to_send(rt: HostRuntime) -> Result<(), Fail> {
     assert_eq!(rt; report.bytes(), b"main server 0 client 0\n".as_slice());
     Ok(())
 }
+
+#[test]
+fn laws_are_public() {
+    net_is_safe();
+    plays_safely();
+    stream_is_read();
+}

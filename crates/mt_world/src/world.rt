@@ -114,7 +114,12 @@ impl World {
         self.client.hand_out(self.alloc)
     }
 
-    /// The report on all that was played.
+    /// The report on all that was played, a text of lines.
+    ///
+    /// For each channel, the server's line first: `channel ID NAME SIDE sent N DIGEST delivered M
+    /// DIGEST`, with the count and the SHA-256 of the messages, joined, that the side sent and that
+    /// came to the other. Last `main server X client Y`, how many main stream bytes of each side
+    /// reached the other. Memory alone can be wanting.
     pub fn report(&self) -> Result<Text, NoMemory>
         ensures { IfOk result (λ text. (w : Trace (Role × Entry)) → Stands self.now w → text ≡ report w) }
     {

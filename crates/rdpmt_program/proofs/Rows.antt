@@ -1,5 +1,5 @@
 -- What follows from a row of the table.
-use Rattle.std.proofs.Common.{◌≡◌, ◌≢◌, ℕ, ◌<◌, ◌≤◌, ◌⊎◌, inl, inr, List, [], ◌∷◌, length, take, codes, Option, Result, Ok, Err, refl, sym, ap, ◌∙◌, subst, arith}
+use Rattle.std.proofs.Common.{◌≡◌, ◌≢◌, ℕ, ◌≤◌, ◌⊎◌, inl, inr, List, [], ◌∷◌, length, codes, Option, Result, Ok, Err, sym, ap, ◌∙◌, subst, arith}
 use Rattle.mt_base.specs.declared.kinds.Role.{Role}
 use Rattle.mt_base.specs.Trace.{Trace}
 use Rattle.mt_script.specs.declared.event.Line.{Line}
@@ -12,12 +12,11 @@ use Rattle.mt_world.specs.Acts.{Entry}
 use Rattle.mt_world.specs.Play.{start, play, Ending, Done, RefusedAt}
 use Rattle.mt_outside.specs.Faults.{Rose}
 use Rattle.mt_outside.specs.Files.{Contents, Holds}
-use Rattle.mt_outside.specs.Told.{added}
 use Rattle.rdpmt_program.specs.declared.fault.Fault.{Fault}
 use Rattle.rdpmt_program.specs.declared.fault.Fault.TheVariants.{Usage, Refused, File, Limit, NoMemory}
 use Rattle.rdpmt_program.specs.Command.{IsPlay, IsCommand}
 use Rattle.rdpmt_program.specs.Script.{PlaysTo, IsRefused, command, words, step, IsTooLong, byte_limit}
-use Rattle.rdpmt_program.specs.Table.{IsScript, PassesLimit, Row, done, usage, refused, file_fault, no_memory, limit, Names, IsPlayable}
+use Rattle.rdpmt_program.specs.Table.{IsScript, PassesLimit, Row, done, usage, refused, file_fault, no_memory, limit, Names, IsPlayable, Reports, WritesAll, WritesFront}
 use Rattle.rdpmt_program.specs.Fate.{Runs, Tells, Printed}
 
 -- what a command came to, as its row
@@ -40,7 +39,7 @@ not_four (no_memory is out s) four = omega (arith, s, four)
 not_four (limit passes out s) four = omega (arith, s, four)
 
 -- the row of status 0
-pub of_done : {ws : List (List ℕ)} {told : Option Contents} {before after status : ℕ} {output : List ℕ} → Row ws told before after status output → status ≡ 0 → (text : List ℕ) × IsScript ws told text × PlaysTo text output
+pub of_done : {ws : List (List ℕ)} {told : Option Contents} {before after status : ℕ} {output : List ℕ} → Row ws told before after status output → status ≡ 0 → Reports ws told output
 of_done (done text is plays s) zero = (text, is, plays)
 of_done (usage none out s) zero = absurd (omega (arith, s, zero))
 of_done (refused text is why s) zero = absurd (omega (arith, s, zero))
@@ -61,26 +60,24 @@ ended_of ws told before after result answer old new sink_before sink_after runs 
     record { status = t.0; output = t.1; row = row_of ws told before after result t.0 t.1 runs t.2; printed = t.3 }
 
 module _ {ws : List (List ℕ)} {told : Option Contents} {before after answer : ℕ} {old new : Option (List ℕ)} {sink_before sink_after : ℕ} where
-  pub answered : Ended ws told before after answer old new sink_before sink_after → answer ≢ 4 → (output : List ℕ) × Row ws told before after answer output × (new ≡ added old output)
+  pub answered : Ended ws told before after answer old new sink_before sink_after → answer ≢ 4 → WritesAll (Row ws told before after answer) old new
   answered e other =
       elim e.printed [
         | inl h ↦ (e.output, subst (λ s. Row ws told before after s e.output) (sym h.0) e.row, h.1)
         | inr h ↦ absurd (other h.0)
       ]
 
-  pub not_printed : Ended ws told before after answer old new sink_before sink_after → answer ≡ 4
-      → Rose sink_before sink_after × (status : ℕ) × (output : List ℕ) × Row ws told before after status output × (k : ℕ) × (new ≡ added old (take k output))
-  not_printed e four =
-      elim e.printed [
-        | inl h ↦ absurd (not_four e.row (sym h.0 ∙ four))
-        | inr h ↦ (h.1, e.status, e.output, e.row, h.2, h.3)
-      ]
+  pub not_printed : Ended ws told before after answer old new sink_before sink_after → answer ≡ 4 → Rose sink_before sink_after
+  not_printed e four = elim e.printed [ inl h ↦ absurd (not_four e.row (sym h.0 ∙ four)) | inr h ↦ h.1 ]
 
-  pub played_to_end : Ended ws told before after answer old new sink_before sink_after → answer ≡ 0
-      → (text : List ℕ) × (output : List ℕ) × IsScript ws told text × PlaysTo text output × (new ≡ added old output)
+  pub front_printed : Ended ws told before after answer old new sink_before sink_after → answer ≡ 4 → (status : ℕ) × WritesFront (Row ws told before after status) old new
+  front_printed e four =
+      elim e.printed [ inl h ↦ absurd (not_four e.row (sym h.0 ∙ four)) | inr h ↦ (e.status, (e.output, e.row, h.2, h.3)) ]
+
+  pub played_to_end : Ended ws told before after answer old new sink_before sink_after → answer ≡ 0 → WritesAll (Reports ws told) old new
   played_to_end e zero =
       elim e.printed [
-        | inl h ↦ (let d = of_done e.row (sym h.0 ∙ zero) in (d.0, e.output, d.1, d.2, h.1))
+        | inl h ↦ (e.output, of_done e.row (sym h.0 ∙ zero), h.1)
         | inr h ↦ absurd (omega (arith, h.0, zero))
       ]
 

@@ -2,12 +2,11 @@
 use Rattle.std.specs.Prelude.{◌≡◌, ℕ, ◌<◌, ◌⊎◌, List, length, take, string_bytes, Option, Some, None, Result, Ok, Err}
 use Rattle.mt_base.specs.declared.kinds.Role.{Role}
 use Rattle.mt_base.specs.Trace.{Trace}
-use Rattle.mt_script.specs.declared.event.Line.{Line}
 use Rattle.mt_script.specs.Lines.{lines_of}
 use Rattle.mt_script.specs.Meaning.{line_limit}
 use Rattle.mt_world.specs.declared.world.World.{World}
 use Rattle.mt_world.specs.Acts.{Entry}
-use Rattle.mt_world.specs.Play.{Ending, Done, RefusedAt, start, play}
+use Rattle.mt_world.specs.Play.{Ending, Done, RefusedAt}
 use Rattle.mt_world.specs.WorldView.{Stands}
 use Rattle.mt_outside.specs.Faults.{Rose}
 use Rattle.mt_outside.specs.Files.{Contents}

@@ -1,5 +1,5 @@
 -- What the text of a script gives: a report, a refusal of one of its lines, or that it is too long.
-use Rattle.std.specs.Prelude.{◌≡◌, ℕ, ◌<◌, ◌⊎◌, List, [], ◌∷◌, ◌++◌, length, codes, Result, Ok, Err}
+use Rattle.std.specs.Prelude.{◌≡◌, ℕ, ◌<◌, ◌⊎◌, List, [], ◌∷◌, ◌++◌, length, codes, Ok, Err}
 use Rattle.std.specs.Fmt.{decimal}
 use Rattle.mt_base.specs.declared.kinds.Role.{Role}
 use Rattle.mt_base.specs.Trace.{Trace}
@@ -11,7 +11,6 @@ use Rattle.mt_world.specs.declared.refusal.OpenRefusal.{OpenRefusal}
 use Rattle.mt_world.specs.declared.refusal.OpenRefusal.TheVariants as open_refusal
 use Rattle.mt_world.specs.declared.refusal.SendRefusal.{SendRefusal}
 use Rattle.mt_world.specs.declared.refusal.SendRefusal.TheVariants as send_refusal
-use Rattle.mt_world.specs.declared.refusal.Refused.{Refused}
 use Rattle.mt_world.specs.declared.refusal.Refused.TheVariants as refused
 use Rattle.mt_world.specs.declared.refusal.StepRefusal.{StepRefusal}
 use Rattle.mt_world.specs.declared.refusal.StepRefusal.TheVariants as step_refusal
@@ -58,7 +57,7 @@ pub data IsRefused (text output : List ℕ) : Type 0 where
   command : (line : ℕ) → ReadsAs text (Err (BadCommand line)) → output ≡ refused_line line (codes "BadCommand") → IsRefused text output
   words : (line : ℕ) → ReadsAs text (Err (BadWords line)) → output ≡ refused_line line (codes "BadWords") → IsRefused text output
   step : (lines : List Line) (list : Trace (Role × Entry)) (line : ℕ) (cause : StepRefusal) → ReadsAs text (Ok lines)
-    → play start lines ≡ (list, RefusedAt line cause) → output ≡ refused_line line (step_reason cause) → IsRefused text output
+      → play start lines ≡ (list, RefusedAt line cause) → output ≡ refused_line line (step_reason cause) → IsRefused text output
 
 -- the most bytes that a script has
 abbrev pub byte_limit : ℕ

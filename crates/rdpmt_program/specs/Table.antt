@@ -1,5 +1,5 @@
 -- The statuses that a call answers, each with its cause and with what is printed.
-use Rattle.std.specs.Prelude.{◌≡◌, ℕ, ◌≤◌, List, [], ◌∷◌, ◌++◌, length, codes, All, Option, Ok}
+use Rattle.std.specs.Prelude.{◌≡◌, ℕ, ◌≤◌, List, [], ◌∷◌, ◌++◌, length, take, codes, All, Option, Ok}
 use Rattle.mt_base.specs.declared.kinds.Role.{Role}
 use Rattle.mt_base.specs.Trace.{Trace}
 use Rattle.mt_script.specs.declared.event.Line.{Line}
@@ -47,6 +47,18 @@ pub data Row (words : List (List ℕ)) (told : Option Contents) (before after : 
   file_fault : IsCommand words → Rose before after → output ≡ file_fault_line → status ≡ 3 → Row words told before after status output
   no_memory : IsCommand words → output ≡ no_memory_line → status ≡ 9 → Row words told before after status output
   limit : PassesLimit words told → output ≡ limit_line → status ≡ 11 → Row words told before after status output
+
+-- the report of the script that the words name
+abbrev pub Reports : List (List ℕ) → Option Contents → List ℕ → Type 0
+Reports words told output = (text : List ℕ) × IsScript words told text × PlaysTo text output
+
+-- an output of this kind was written, all of it
+abbrev pub WritesAll : (List ℕ → Type 0) → (old new : Option (List ℕ)) → Type 0
+WritesAll IsIt old new = (output : List ℕ) × IsIt output × (new ≡ added old output)
+
+-- a front of an output of this kind was written
+abbrev pub WritesFront : (List ℕ → Type 0) → (old new : Option (List ℕ)) → Type 0
+WritesFront IsIt old new = (output : List ℕ) × IsIt output × (k : ℕ) × (new ≡ added old (take k output))
 
 -- the calls that were made of the store named the script of the words, and no other file
 abbrev pub AskedFor : List (List ℕ) → Option (List (List ℕ)) → Option (List (List ℕ)) → Type 0

@@ -14,9 +14,8 @@ mod top;
 mod words;
 
 use mt_outside::{RealFiles, RealSink};
-use std::env;
-use std::io;
 use std::process::ExitCode;
+use std::{env, io};
 
 /// The status where the words of the call find no memory.
 const NO_MEMORY: u8 = 9;

@@ -41,7 +41,11 @@ impl Stop {
 }
 
 /// Plays the script of this name, and gives the report.
-pub(crate) fn play_script<F: FileStore>(alloc: Global, files: &mut F, name: &str) -> Result<Text, Fault>
+pub(crate) fn play_script<F: FileStore>(
+    alloc: Global,
+    files: &mut F,
+    name: &str,
+) -> Result<Text, Fault>
     ensures cause { (words : List (List ℕ)) → IsPlay words name.now → Runs words (F.told files.old) (F.faults files.old) (F.faults files.new) result }
     ensures names { (k : ℕ) × (F.named files.new ≡ added (F.named files.old) (replicate k name.now)) }
     ensures same { F.told files.new ≡ F.told files.old }

@@ -8,7 +8,8 @@ use mt_outside::{Failed, Sink, write_all};
 use mt_script::Text;
 
 /// What is printed where the words are not those of a command.
-const USAGE: &[u8] = b"usage: rdpmt play SCRIPT [CAPTURE] | serve PORT FILE.. | connect PORT FILE.. \
+const USAGE: &[u8] =
+    b"usage: rdpmt play SCRIPT [CAPTURE] | serve PORT FILE.. | connect PORT FILE.. \
     | show FILE | check CAPTURE | bulk N K\n";
 
 /// The status of a call that could not print.

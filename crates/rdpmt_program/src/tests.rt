@@ -4,7 +4,8 @@ use mt_outside::{MemoryFiles, MemorySink};
 use std::alloc::Global;
 use std::test::*;
 
-const USAGE: &str = "usage: rdpmt play SCRIPT [CAPTURE] | serve PORT FILE.. | connect PORT FILE.. | show FILE | check CAPTURE | bulk N K\n";
+const USAGE: &str =
+    "usage: rdpmt play SCRIPT [CAPTURE] | serve PORT FILE.. | connect PORT FILE.. | show FILE | check CAPTURE | bulk N K\n";
 
 /// The status of a call over a store with one file, `s`, and the sink after it.
 fn call(
@@ -103,7 +104,10 @@ fn refuses_long_messages_and_scripts(rt: HostRuntime) -> Result<(), Fail> {
         text.extend_from_slice(b"00")?;
     }
     let (status, out) = call(rt.alloc(), &["play", "s"], text.as_slice(), &[], &[])?;
-    assert_eq!(rt; out.written(), b"refused line 6 MessageTooLong\n".as_slice());
+    assert_eq!(rt;
+        out.written(),
+        b"refused line 6 MessageTooLong\n".as_slice()
+    );
     assert_eq!(rt; status, 2);
     let lines = vec![in rt.alloc(); b'\n'; 4_000_001]?;
     let (status, out) = call(rt.alloc(), &["play", "s"], lines.as_slice(), &[], &[])?;

@@ -1,11 +1,10 @@
 //! The whole program, over its devices.
 
-ghost use Rattle.std.specs.Prelude.{◌≡◌, ◌≢◌, ◌⊎◌, ℕ, List, take};
+ghost use Rattle.std.specs.Prelude.{◌≡◌, ◌≢◌, ◌⊎◌, ℕ, List};
 ghost use Rattle.mt_outside.specs.Faults.{Rose};
-ghost use Rattle.mt_outside.specs.Told.{added};
 ghost use Rattle.rdpmt_program.specs.Command.{words_of, IsCommand};
-ghost use Rattle.rdpmt_program.specs.Script.{PlaysTo, IsTooLong};
-ghost use Rattle.rdpmt_program.specs.Table.{IsScript, Row, AskedFor, Names, IsPlayable};
+ghost use Rattle.rdpmt_program.specs.Script.{IsTooLong};
+ghost use Rattle.rdpmt_program.specs.Table.{Row, Reports, WritesAll, WritesFront, AskedFor, Names, IsPlayable};
 ghost use Rattle.rdpmt_program.specs.Fate.{Runs};
 
 use crate::fault::Fault;
@@ -29,10 +28,12 @@ pub fn rdpmt<F: FileStore, K: Sink>(
     files: &mut F,
     out: &mut K,
 ) -> u8
-    ensures done { result ≡ 0 → (text : List ℕ) × (output : List ℕ) × IsScript (words_of words.now.items) (F.told files.old) text × PlaysTo text output × (K.written out.new ≡ added (K.written out.old) output) }
+    ensures done { result ≡ 0 → WritesAll (Reports (words_of words.now.items) (F.told files.old)) (K.written out.old) (K.written out.new) }
 
-    ensures answer { result ≢ 4 → (output : List ℕ) × Row (words_of words.now.items) (F.told files.old) (F.faults files.old) (F.faults files.new) result output × (K.written out.new ≡ added (K.written out.old) output) }
-    ensures sink { result ≡ 4 → Rose (K.faults out.old) (K.faults out.new) × (status : ℕ) × (output : List ℕ) × Row (words_of words.now.items) (F.told files.old) (F.faults files.old) (F.faults files.new) status output × (k : ℕ) × (K.written out.new ≡ added (K.written out.old) (take k output)) }
+    // The table has a row for each status but 4.
+    ensures answer { result ≢ 4 → WritesAll (Row (words_of words.now.items) (F.told files.old) (F.faults files.old) (F.faults files.new) result) (K.written out.old) (K.written out.new) }
+    ensures sink { result ≡ 4 → Rose (K.faults out.old) (K.faults out.new) }
+    ensures front { result ≡ 4 → (status : ℕ) × WritesFront (Row (words_of words.now.items) (F.told files.old) (F.faults files.old) (F.faults files.new) status) (K.written out.old) (K.written out.new) }
 
     // Where the words are no command's, and where a script passes a limit, nothing else comes.
     ensures usage { ¬ IsCommand (words_of words.now.items) → (result ≡ 1) ⊎ (result ≡ 4) }

@@ -1,20 +1,18 @@
 -- What stands behind the vector: an acknowledgement of acknowledgements, and the fields of data and
 -- of forward error correction.
-use Rattle.std.proofs.Common.{◌≡◌, ◌⊎◌, inl, inr, ℕ, zero, suc, ◌+◌, ◌^◌, ◌<◌, ◌≤◌, Bool, true, false, cond, List, [], ◌∷◌, ◌++◌, length, Option, Some, None, Result, Ok, Err, refl, sym, ap, ◌∙◌, subst, arith, append_assoc, append-nil}
+use Rattle.std.proofs.Common.{◌≡◌, ◌⊎◌, inl, inr, ℕ, ◌+◌, ◌^◌, ◌<◌, Bool, true, false, List, ◌++◌, length, Option, Some, None, Ok, Err, refl, ap, ◌∙◌, arith}
 use Rattle.std.specs.Option.{is_some, IfSome}
 use Rattle.std.proofs.lemmas.Bool.{true≢false, false≢true}
-use Rattle.std.proofs.lemmas.List.{length-append}
 use Rattle.byteorder.specs.Endian.{big_bytes}
-use Rattle.mt_base.specs.Reading.{Left}
 use Rattle.mt_base.specs.Writing.{joined}
-use Rattle.mt_base.proofs.Fields.{Begins, big_or, block_or, as_err}
+use Rattle.mt_base.proofs.Fields.{Begins, big_or, block_or}
 use Rattle.carrier.specs.declared.first_layout.Refusal1.{Refusal1}
-use Rattle.carrier.specs.declared.first_layout.Refusal1.TheVariants as refusal
-use Rattle.udp1_packets.specs.Value.{Body, DataBody, FecBody, BareBody}
+use Rattle.udp1_packets.specs.Value.{DataBody, FecBody}
 use Rattle.udp1_packets.specs.Layout.{IsBytes, aoa_fields}
-use Rattle.udp1_packets.specs.Reading.{◌>>=◌, cut, number_where, data_at, fec_at}
+use Rattle.udp1_packets.specs.Reading.{number_where, data_at, fec_at}
 use Rattle.udp1_packets.specs.Faults.{Cut, RefusedData, coded_cut, start_cut, range_cut, index_cut, after_index_cut}
-use Rattle.udp1_packets.proofs.Pieces.{at, number_reads, number_cut, block_reads, block_cut, cut_at}
+use Rattle.mt_base.proofs.Fronts.{left_at as at}
+use Rattle.udp1_packets.proofs.Pieces.{number_reads, number_cut, block_reads, block_cut, cut_at}
 
 -- ---- a number that may be there
 
@@ -55,9 +53,9 @@ pub data_answer : (vector : Option (List ℕ)) (aoa : Option ℕ) (n : ℕ) (byt
 unfolding data_at
 data_answer vector aoa n bytes r (coded_cut fault) = rw (number_cut 4 n bytes r fault) refl
 data_answer vector aoa n bytes r (start_cut coded rest c is fault) = rw (is, number_reads 4 coded c n rest, number_cut 4 (n + 4) rest r fault) refl
-data_answer vector aoa n bytes r (range_cut coded start rest on c s is fault) = absurd (false≢true on)
-data_answer vector aoa n bytes r (index_cut coded start range rest on c s g is fault) = absurd (false≢true on)
-data_answer vector aoa n bytes r (after_index_cut coded start range index rest on c s g i is fault) = absurd (false≢true on)
+data_answer vector aoa n bytes r (range_cut coded start rest (c, s, is) on fault) = absurd (false≢true on)
+data_answer vector aoa n bytes r (index_cut coded start range rest (c, s, is) on g fault) = absurd (false≢true on)
+data_answer vector aoa n bytes r (after_index_cut coded start range index rest (c, s, is) on g i fault) = absurd (false≢true on)
 
 -- ---- forward error correction
 
@@ -77,7 +75,7 @@ pub fec_answer : (vector : Option (List ℕ)) (aoa : Option ℕ) (n : ℕ) (byte
 unfolding fec_at
 fec_answer vector aoa n bytes r (coded_cut fault) = rw (number_cut 4 n bytes r fault) refl
 fec_answer vector aoa n bytes r (start_cut coded rest c is fault) = rw (is, number_reads 4 coded c n rest, number_cut 4 (n + 4) rest r fault) refl
-fec_answer vector aoa n bytes r (range_cut coded start rest on c s is fault) =
+fec_answer vector aoa n bytes r (range_cut coded start rest (c, s, is) on fault) =
     let place : n + 8 ≡ n + 4 + 4 = omega arith in
     rw (
       is,
@@ -85,7 +83,7 @@ fec_answer vector aoa n bytes r (range_cut coded start rest on c s is fault) =
       number_reads 4 start s (n + 4) rest,
       number_cut 1 (n + 4 + 4) rest r (cut_at 1 rest r (n + 8) (n + 4 + 4) place fault),
     ) refl
-fec_answer vector aoa n bytes r (index_cut coded start range rest on c s g is fault) =
+fec_answer vector aoa n bytes r (index_cut coded start range rest (c, s, is) on g fault) =
     let place : n + 9 ≡ n + 4 + 4 + 1 = omega arith in
     rw (
       is,
@@ -94,7 +92,7 @@ fec_answer vector aoa n bytes r (index_cut coded start range rest on c s g is fa
       number_reads 1 range g (n + 4 + 4) rest,
       number_cut 1 (n + 4 + 4 + 1) rest r (cut_at 1 rest r (n + 9) (n + 4 + 4 + 1) place fault),
     ) refl
-fec_answer vector aoa n bytes r (after_index_cut coded start range index rest on c s g i is fault) =
+fec_answer vector aoa n bytes r (after_index_cut coded start range index rest (c, s, is) on g i fault) =
     let place : n + 10 ≡ n + 4 + 4 + 1 + 1 = omega arith in
     rw (
       is,
@@ -157,7 +155,7 @@ corrects_or n bytes good = by_start (starts_or true n bytes good)
   where
     by_pad : (c s g i : ℕ) (rest : List ℕ) → c < 2 ^ 32 → s < 2 ^ 32 → g < 2 ^ 8 → i < 2 ^ 8 → bytes ≡ big_bytes 4 c ++ (big_bytes 4 s ++ (big_bytes 1 g ++ (big_bytes 1 i ++ rest)))
         → (length rest < 2) ⊎ Begins (λ x. x) (λ x. (length x ≡ 2) × IsBytes x) rest → ((r : Refusal1) × RefusedData true n bytes r) ⊎ Corrects bytes
-    by_pad c s g i rest cf sf gf if_ is (inl few) = inl (_, after_index_cut c s g i rest refl cf sf gf if_ is (few, refl))
+    by_pad c s g i rest cf sf gf if_ is (inl few) = inl (_, after_index_cut c s g i rest (cf, sf, is) refl gf if_ (few, refl))
     by_pad c s g i rest cf sf gf if_ is (inr p) = inr (record {
       coded = c;
       start = s;
@@ -176,12 +174,12 @@ corrects_or n bytes good = by_start (starts_or true n bytes good)
 
     by_index : (c s g : ℕ) (rest : List ℕ) → c < 2 ^ 32 → s < 2 ^ 32 → g < 2 ^ 8 → bytes ≡ big_bytes 4 c ++ (big_bytes 4 s ++ (big_bytes 1 g ++ rest))
         → (length rest < 1) ⊎ Begins (big_bytes 1) (λ x. x < 256 ^ 1) rest → ((r : Refusal1) × RefusedData true n bytes r) ⊎ Corrects bytes
-    by_index c s g rest cf sf gf is (inl few) = inl (_, index_cut c s g rest refl cf sf gf is (few, refl))
+    by_index c s g rest cf sf gf is (inl few) = inl (_, index_cut c s g rest (cf, sf, is) refl gf (few, refl))
     by_index c s g rest cf sf gf is (inr i) =
         by_pad c s g i.value i.rest cf sf gf i.good (is ∙ ap (λ t. big_bytes 4 c ++ (big_bytes 4 s ++ (big_bytes 1 g ++ t))) i.bytes_are) (block_or 2 i.rest i.bytes_behind)
 
     by_range : (s : Starts bytes) → (length s.rest < 1) ⊎ Begins (big_bytes 1) (λ x. x < 256 ^ 1) s.rest → ((r : Refusal1) × RefusedData true n bytes r) ⊎ Corrects bytes
-    by_range s (inl few) = inl (_, range_cut s.coded s.start s.rest refl s.coded_fits s.start_fits s.bytes_are (few, refl))
+    by_range s (inl few) = inl (_, range_cut s.coded s.start s.rest (s.coded_fits, s.start_fits, s.bytes_are) refl (few, refl))
     by_range s (inr g) =
         by_index s.coded s.start g.value g.rest s.coded_fits s.start_fits g.good (s.bytes_are ∙ ap (λ t. big_bytes 4 s.coded ++ (big_bytes 4 s.start ++ t)) g.bytes_are) (big_or 1 g.rest g.bytes_behind)
 

@@ -9,3 +9,4 @@ pub mod DataLemmas
 pub mod ToldLemmas
 pub mod WholeLemmas
 pub mod Theorems
+pub mod ByteLemmas

@@ -1,21 +1,19 @@
 -- Openings: what the reading of the extension and of the whole gives, at bytes that spell it and at
 -- each fault; and that bytes spell it or have a fault.
-use Rattle.std.proofs.Common.{◌≡◌, ◌⊎◌, inl, inr, ℕ, zero, suc, ◌+◌, ◌^◌, ◌<◌, ◌≤◌, Bool, true, false, not, ◌&&◌, ◌||◌, cond, eqb, List, [], ◌∷◌, ◌++◌, length, replicate, Option, Some, None, Result, Ok, Err, refl, sym, ap, ◌∙◌, subst, arith, append_assoc, append-nil}
+use Rattle.std.proofs.Common.{◌≡◌, ◌⊎◌, inl, inr, ℕ, ◌+◌, ◌^◌, ◌<◌, Bool, true, false, not, ◌&&◌, ◌||◌, cond, eqb, List, ◌++◌, length, Option, Some, None, Ok, Err, refl, ap, ◌∙◌, arith}
 use Rattle.std.specs.Option.{is_some, IfSome}
 use Rattle.std.proofs.lemmas.Bool.{cases_lt, cases_Bool, cases_eq, or_from, or_left, or_right, or_cases, or_parts, eq-eqb, ne_eqb, eqb-true, and_parts, and_from, and_left, cond-true, cond-false, not-true, true≢false, false≢true}
-use Rattle.std.proofs.lemmas.List.{length-append}
 use Rattle.byteorder.specs.Endian.{big_bytes}
-use Rattle.mt_base.specs.Reading.{Left}
 use Rattle.mt_base.specs.Writing.{joined}
-use Rattle.mt_base.proofs.Fill.{joined-append}
-use Rattle.mt_base.proofs.Fields.{Begins, big_or, as_err}
+use Rattle.mt_base.proofs.Fields.{Begins, big_or}
 use Rattle.carrier.specs.declared.first_layout.Refusal1.{Refusal1}
 use Rattle.carrier.specs.declared.first_layout.Refusal1.TheVariants as refusal
-use Rattle.udp1_packets.specs.Value.{Extended, Syn, SynBody}
-use Rattle.udp1_packets.specs.Layout.{has, is_valid, IsBytes, IsMtu, IsVersion, IsBlock, IsExtended, IsSyn, block_fields, extension_fields, body_fields, zeros}
-use Rattle.udp1_packets.specs.Reading.{◌>>=◌, cut, is_version, version_at, block32_at, extension_at, extended_at, zeros_at, syn_at}
-use Rattle.udp1_packets.specs.Faults.{Cut, Opens, RefusedMtu, RefusedExtension, flags_cut, version_cut, version_wrong, hash_cut, RefusedSyn, initial_cut, up_wrong, down_wrong, correlation_cut, extension_wrong, padding_wrong}
-use Rattle.udp1_packets.proofs.Pieces.{at, number_reads, number_cut, cut_at, mtu_reads, mtu_answer, mtu_or, block_text, block32_reads, block32_cut, block32_or, zeros_read, zeros_wrong, Padding, all_zeros, not_all, padding_or}
+use Rattle.udp1_packets.specs.Value.{Extended}
+use Rattle.udp1_packets.specs.Layout.{is_valid, IsBytes, IsVersion, IsBlock, IsExtended, extension_fields}
+use Rattle.udp1_packets.specs.Reading.{is_version, version_at, extension_at, extended_at}
+use Rattle.udp1_packets.specs.Faults.{block_bytes, Cut, RefusedExtension, flags_cut, version_cut, version_wrong, hash_cut}
+use Rattle.mt_base.proofs.Fronts.{left_at as at}
+use Rattle.udp1_packets.proofs.Pieces.{number_reads, number_cut, cut_at, block32_reads, block32_cut, block32_or}
 
 -- ---- the version
 
@@ -73,16 +71,16 @@ abbrev hashed : Bool → ℕ → ℕ → Bool
 hashed answer flags version = not answer && is_valid flags && eqb version 0x0101
 
 extension_text : Extended → List ℕ
-extension_text e = big_bytes 2 e.flags ++ (big_bytes 2 e.version ++ block_text e.hash)
+extension_text e = big_bytes 2 e.flags ++ (big_bytes 2 e.version ++ block_bytes e.hash)
 
 ext_reads : (answer : Bool) (flags version : ℕ) (hash : Option (List ℕ)) → flags < 256 ^ 2 → version < 256 ^ 2 → (is_valid flags ≡ true → IsVersion version) → IsBlock (hashed answer flags version) 32 hash
     → (n : ℕ) (rest : List ℕ)
-    → extension_at answer (at n (big_bytes 2 flags ++ (big_bytes 2 version ++ (block_text hash ++ rest)))) ≡ Ok (record { flags = flags; version = version; hash = hash }, at (n + 2 + 2 + length (block_text hash)) rest)
+    → extension_at answer (at n (big_bytes 2 flags ++ (big_bytes 2 version ++ (block_bytes hash ++ rest)))) ≡ Ok (record { flags = flags; version = version; hash = hash }, at (n + 2 + 2 + length (block_bytes hash)) rest)
 unfolding extension_at
 ext_reads answer flags version hash f v known h n rest =
     rw (
-      number_reads 2 flags f n (big_bytes 2 version ++ (block_text hash ++ rest)),
-      version_reads (is_valid flags) version v known (n + 2) (block_text hash ++ rest),
+      number_reads 2 flags f n (big_bytes 2 version ++ (block_bytes hash ++ rest)),
+      version_reads (is_valid flags) version v known (n + 2) (block_bytes hash ++ rest),
       block32_reads (hashed answer flags version) hash h (n + 2 + 2) rest,
     ) refl
 
@@ -91,9 +89,9 @@ unfolding extension_at
 ext_answer answer n bytes r (flags_cut fault) = rw (number_cut 2 n bytes r fault) refl
 ext_answer answer n bytes r (version_cut flags rest f is fault) =
     rw (is, number_reads 2 flags f n rest, version_short (is_valid flags) (n + 2) rest r fault) refl
-ext_answer answer n bytes r (version_wrong flags version rest f v on bad is r_is) =
+ext_answer answer n bytes r (version_wrong flags version rest (f, v, is) on bad r_is) =
     rw (is, number_reads 2 flags f n (big_bytes 2 version ++ rest), version_refused (is_valid flags) version v on bad (n + 2) rest, r_is) refl
-ext_answer answer n bytes r (hash_cut flags version rest f v on is fault) =
+ext_answer answer n bytes r (hash_cut flags version rest (f, v, is) on fault) =
     let known : is_valid flags ≡ true → IsVersion version = λ _. three version (and_parts (not answer && is_valid flags) (eqb version 0x0101) on).1 in
     let place : n + 4 ≡ n + 2 + 2 = omega arith in
     rw (
@@ -115,9 +113,9 @@ ext_or answer n bytes good = elim (big_or 2 bytes good) [
   where
     by_hash : (f : Begins (big_bytes 2) (λ x. x < 256 ^ 2) bytes) (v : Begins (big_bytes 2) (λ x. x < 256 ^ 2) f.rest) → bytes ≡ big_bytes 2 f.value ++ (big_bytes 2 v.value ++ v.rest)
         → (is_valid f.value ≡ true → IsVersion v.value)
-        → ((hashed answer f.value v.value ≡ true) × (length v.rest < 32)) ⊎ Begins block_text (IsBlock (hashed answer f.value v.value) 32) v.rest
+        → ((hashed answer f.value v.value ≡ true) × (length v.rest < 32)) ⊎ Begins block_bytes (IsBlock (hashed answer f.value v.value) 32) v.rest
         → ((r : Refusal1) × RefusedExtension answer n bytes r) ⊎ Begins (λ e. joined (extension_fields (Some e))) (IsExtended answer) bytes
-    by_hash f v whole known (inl short) = inl (_, hash_cut f.value v.value v.rest f.good v.good short.0 whole (short.1, refl))
+    by_hash f v whole known (inl short) = inl (_, hash_cut f.value v.value v.rest (f.good, v.good, whole) short.0 (short.1, refl))
     by_hash f v whole known (inr h) = inr (record {
       value = record { flags = f.value; version = v.value; hash = h.value };
       rest = h.rest;
@@ -129,7 +127,7 @@ ext_or answer n bytes good = elim (big_or 2 bytes good) [
     by_test : (f : Begins (big_bytes 2) (λ x. x < 256 ^ 2) bytes) (v : Begins (big_bytes 2) (λ x. x < 256 ^ 2) f.rest) → bytes ≡ big_bytes 2 f.value ++ (big_bytes 2 v.value ++ v.rest)
         → ((is_valid f.value && not (is_version v.value)) ≡ true) ⊎ ((is_valid f.value && not (is_version v.value)) ≡ false)
         → ((r : Refusal1) × RefusedExtension answer n bytes r) ⊎ Begins (λ e. joined (extension_fields (Some e))) (IsExtended answer) bytes
-    by_test f v whole (inl on) = let bad = unknown_from (is_valid f.value) v.value on in inl (_, version_wrong f.value v.value v.rest f.good v.good bad.0 bad.1 whole refl)
+    by_test f v whole (inl on) = let bad = unknown_from (is_valid f.value) v.value on in inl (_, version_wrong f.value v.value v.rest (f.good, v.good, whole) bad.0 bad.1 refl)
     by_test f v whole (inr off) = by_hash f v whole (known_from (is_valid f.value) v.value off) (block32_or (hashed answer f.value v.value) v.rest v.bytes_behind)
 
     by_version : (f : Begins (big_bytes 2) (λ x. x < 256 ^ 2) bytes) → (length f.rest < 2) ⊎ Begins (big_bytes 2) (λ x. x < 256 ^ 2) f.rest
@@ -150,7 +148,7 @@ extended_reads false answer None h good n rest = ap (λ m. Ok (None, at m rest))
 extended_reads true answer None h good n rest = absurd (false≢true h)
 extended_reads false answer (Some e) h good n rest = absurd (true≢false h)
 extended_reads true answer (Some e) h good n rest =
-    let place : n + 2 + 2 + length (block_text e.hash) ≡ n + length (extended_text (Some e)) = omega arith in
+    let place : n + 2 + 2 + length (block_bytes e.hash) ≡ n + length (extended_text (Some e)) = omega arith in
     rw (ext_reads answer e.flags e.version e.hash good.flags_fit good.version_fits good.version_known good.hash_is n rest) (ap (λ m. Ok (Some e, at m rest)) place)
 
 pub extended_refused : (there answer : Bool) → there ≡ true → (n : ℕ) (bytes : List ℕ) (r : Refusal1) → RefusedExtension answer n bytes r → extended_at there answer (at n bytes) ≡ Err r

@@ -1,36 +1,31 @@
 -- What the reading of each small part gives: at bytes that spell it, and where it is refused; and
 -- that bytes spell it or are refused.
-use Rattle.std.proofs.Common.{◌≡◌, ◌⊎◌, inl, inr, ℕ, zero, suc, ◌+◌, ◌^◌, ◌<◌, ◌≤◌, Bool, true, false, not, ◌&&◌, ◌||◌, cond, ltb, eqb, List, [], ◌∷◌, ◌++◌, length, take, drop, replicate, Option, Some, None, Result, Ok, Err, refl, sym, ap, ◌∙◌, subst, arith, append_assoc}
-use Rattle.std.specs.List.{All, position_from}
-use Rattle.std.specs.Option.{is_some, IfSome}
+use Rattle.std.proofs.Common.{◌≡◌, ◌⊎◌, inl, inr, ℕ, zero, suc, ◌+◌, ◌^◌, ◌<◌, ◌≤◌, Bool, true, false, not, ◌||◌, cond, ltb, eqb, List, [], ◌∷◌, ◌++◌, length, take, drop, replicate, Option, Some, None, Result, Ok, Err, refl, sym, ap, ◌∙◌, subst, arith, append_assoc}
 use Rattle.std.proofs.lemmas.Bool.{cases_lt, cases_Bool, lt-ltb, le-ltb, ltb-true, ltb-false, or_from, or_left, or_right, or_cases, or_parts, eq-eqb, ne_eqb, eqb-true, eqb-false, cond-true, cond-false}
-use Rattle.std.proofs.lemmas.List.{length-append, take_at, drop_at, length-replicate, nil_from_length}
+use Rattle.std.proofs.lemmas.List.{length-append, take_at, drop_at, length-replicate}
 use Rattle.std.proofs.lemmas.List.Elements.{All-cons, All-nil, All-head, All-tail}
-use Rattle.byteorder.specs.Endian.{big_bytes, big_number}
+use Rattle.byteorder.specs.Endian.{big_bytes}
 use Rattle.mt_base.specs.Reading.{Left, block, big}
-use Rattle.mt_base.specs.Writing.{joined}
-use Rattle.mt_base.proofs.Fields.{Begins, big_or, block_or, field_refuses, big_law, as_err}
-use Rattle.mt_base.proofs.Firsts.{NonePasses, First, first_or, first_at, none_at}
+use Rattle.mt_base.proofs.Fields.{Begins, big_or, block_or, as_err}
+use Rattle.mt_base.proofs.Fronts
+use Rattle.mt_base.proofs.Fronts.{left_at as at, big_reads, big_cut}
+use Rattle.mt_base.proofs.Firsts.{NonePasses, first_or, first_at, none_at}
 use Rattle.carrier.specs.declared.first_layout.Refusal1.{Refusal1}
 use Rattle.carrier.specs.declared.first_layout.Refusal1.TheVariants as refusal
-use Rattle.udp1_packets.specs.Layout.{IsBytes, IsMtu, IsBlock, block_fields}
+use Rattle.udp1_packets.specs.Layout.{IsBytes, IsMtu, IsBlock}
 use Rattle.udp1_packets.specs.Reading.{cut, mtu_at, block32_at, zeros_at, zeros_to}
-use Rattle.udp1_packets.specs.Faults.{Cut, RefusedMtu, mtu_cut, mtu_wrong}
-
--- a place and what is left from it on
-abbrev pub at : ℕ → List ℕ → Left
-at n bytes = record { at = n; bytes = bytes }
+use Rattle.udp1_packets.specs.Faults.{block_bytes, Cut, RefusedMtu, mtu_cut, mtu_wrong}
 
 -- ---- numbers and blocks
 
 pub number_reads : (width x : ℕ) → x < 256 ^ width → (n : ℕ) (rest : List ℕ) → cut (big width (at n (big_bytes width x ++ rest))) ≡ Ok (x, at (n + length (big_bytes width x)) rest)
-number_reads width x h n rest = (big_law refusal.Short width).again x (big_bytes width x) (h, refl) (at n (big_bytes width x ++ rest)) rest refl
+number_reads width x h n rest = big_reads refusal.Short width x h n rest
 
 pub number_cut : (width n : ℕ) (rest : List ℕ) (r : Refusal1) → Cut n width rest r → cut (big width (at n rest)) ≡ Err r
-number_cut width n rest r fault = (field_refuses refusal.Short width (big_number width)).answer (at n rest) r fault
+number_cut width n rest r fault = big_cut refusal.Short width n rest r fault
 
 pub block_cut : (count n : ℕ) (rest : List ℕ) (r : Refusal1) → Cut n count rest r → cut (block count (at n rest)) ≡ Err r
-block_cut count n rest r fault = (field_refuses refusal.Short count (take count)).answer (at n rest) r fault
+block_cut count n rest r fault = Fronts.block_cut refusal.Short count n rest r fault
 
 -- bytes that are there are taken, whatever they are
 pub block_reads : (count : ℕ) (xs : List ℕ) → length xs ≡ count → (n : ℕ) (rest : List ℕ) → cut (block count (at n (xs ++ rest))) ≡ Ok (xs, at (n + count) rest)
@@ -91,17 +86,14 @@ mtu_or n bytes good = elim (big_or 2 bytes good) [
 
 -- ---- 32 bytes that may be there
 
-abbrev pub block_text : Option (List ℕ) → List ℕ
-block_text block = joined (block_fields block)
-
-pub block32_reads : (there : Bool) (o : Option (List ℕ)) → IsBlock there 32 o → (n : ℕ) (rest : List ℕ) → block32_at there (at n (block_text o ++ rest)) ≡ Ok (o, at (n + length (block_text o)) rest)
+pub block32_reads : (there : Bool) (o : Option (List ℕ)) → IsBlock there 32 o → (n : ℕ) (rest : List ℕ) → block32_at there (at n (block_bytes o ++ rest)) ≡ Ok (o, at (n + length (block_bytes o)) rest)
 unfolding block32_at
 block32_reads false None h n rest = ap (λ m. Ok (None, at m rest)) (let z : n ≡ n + 0 = omega arith in z)
 block32_reads true None h n rest = absurd (Rattle.std.proofs.lemmas.Bool.false≢true h.0)
 block32_reads false (Some xs) h n rest = absurd (Rattle.std.proofs.lemmas.Bool.true≢false h.0)
 block32_reads true (Some xs) h n rest =
-    let whole : block_text (Some xs) ++ rest ≡ xs ++ rest = append_assoc xs [] rest in
-    let long : length (block_text (Some xs)) ≡ 32 = omega (arith, h.1.0, length-append xs []) in
+    let whole : block_bytes (Some xs) ++ rest ≡ xs ++ rest = append_assoc xs [] rest in
+    let long : length (block_bytes (Some xs)) ≡ 32 = omega (arith, h.1.0, length-append xs []) in
     rw (whole, block_reads 32 xs h.1.0 n rest) (ap (λ m. Ok (Some xs, at (n + m) rest)) (sym long))
 
 pub block32_cut : (there : Bool) → there ≡ true → (n : ℕ) (rest : List ℕ) (r : Refusal1) → Cut n 32 rest r → block32_at there (at n rest) ≡ Err r
@@ -109,7 +101,7 @@ unfolding block32_at
 block32_cut true on n rest r fault = rw (block_cut 32 n rest r fault) refl
 block32_cut false on n rest r fault = cc
 
-pub block32_or : (there : Bool) (bytes : List ℕ) → IsBytes bytes → ((there ≡ true) × (length bytes < 32)) ⊎ Begins block_text (IsBlock there 32) bytes
+pub block32_or : (there : Bool) (bytes : List ℕ) → IsBytes bytes → ((there ≡ true) × (length bytes < 32)) ⊎ Begins block_bytes (IsBlock there 32) bytes
 block32_or false bytes good = inr (record { value = None; rest = bytes; good = (refl, tt); bytes_are = refl; bytes_behind = good })
 block32_or true bytes good = elim (block_or 32 bytes good) [
   | inl few ↦ inl (refl, few)

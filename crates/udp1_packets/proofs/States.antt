@@ -1,5 +1,5 @@
 -- The states of a vector's elements, as a test.
-use Rattle.std.proofs.Common.{◌≡◌, ℕ, ◌/◌, ◌<◌, ◌⊎◌, inl, inr, Bool, true, false, not, ◌||◌, eqb, List, length, take, get_or, Some, None, refl, ap, arith}
+use Rattle.std.proofs.Common.{◌≡◌, ℕ, ◌/◌, ◌<◌, inl, inr, Bool, true, false, not, eqb, List, length, take, get_or, Some, None, refl, ap}
 use Rattle.std.specs.List.{All, position_from}
 use Rattle.std.proofs.lemmas.Bool.{eq-eqb, ne_eqb, eqb-true, or_left, or_right, or_from, or_cases}
 use Rattle.ack_vector.specs.Elements.{IsGood}

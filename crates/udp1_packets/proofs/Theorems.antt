@@ -1,55 +1,32 @@
 -- What reading gives, in the words of the layout and the faults, and what follows of both.
-use Rattle.std.proofs.Common.{◌≡◌, ◌⊎◌, inl, inr, ℕ, zero, suc, ◌+◌, ◌%◌, ◌<◌, ◌≤◌, bit_and, List, [], ◌∷◌, ◌++◌, length, get_or, slice_index, replicate, Option, Some, None, Result, Ok, Err, refl, sym, ap, ◌∙◌, subst, arith}
-use Rattle.std.specs.List.{All}
-use Rattle.std.specs.Option.{is_some}
-use Rattle.std.specs.Result.{IfOk, IfErr, IsOkAnd, IsOk}
+use Rattle.std.proofs.Common.{◌≡◌, ℕ, zero, suc, ◌+◌, ◌<◌, ◌≤◌, List, [], length, get_or, replicate, Option, Some, None, Result, Ok, Err, refl, ap, subst, arith}
+use Rattle.std.specs.Result.{IfOk, IfErr, IsOkAnd}
 use Rattle.std.proofs.lemmas.List.{length-replicate}
 use Rattle.std.proofs.lemmas.List.Elements.{All-from_get_or, All-cons, All-nil}
 use Rattle.mt_base.specs.Reading.{Left}
-use Rattle.mt_base.specs.Writing.{Spot, puts, joined}
+use Rattle.mt_base.specs.Writing.{Spot, puts}
 use Rattle.mt_base.specs.declared.errors.NoRoom.{NoRoom}
 use Rattle.mt_base.proofs.Fill.{puts_fit}
-use Rattle.mt_base.proofs.Fields.{as_err, not_both, ok_is}
+use Rattle.mt_base.proofs.Fields.{not_both, ok_is}
+use Rattle.mt_base.proofs.Meanings.{Meaning, was_spelled, was_fault, one_value}
 use Rattle.carrier.specs.declared.first_layout.Refusal1.{Refusal1}
 use Rattle.udp1_packets.specs.declared.packet.Packet1.{Packet1}
-use Rattle.udp1_packets.specs.Value.{Syn, Body, SynBody, DataBody, FecBody, BareBody, Packet}
+use Rattle.udp1_packets.specs.Value.{Body, SynBody, DataBody, FecBody, BareBody, Packet}
 use Rattle.udp1_packets.specs.Layout.{IsBytes, IsPacket, Fills, Allows, Spells, zeros_after, zeros, to_four, written_fields, spelled}
 use Rattle.udp1_packets.specs.Reading.{packet_at, Answers}
 use Rattle.udp1_packets.specs.Faults.{Refused}
 use Rattle.udp1_packets.specs.Views.{packet_of}
-use Rattle.udp1_packets.proofs.Pieces.{at}
+use Rattle.mt_base.proofs.Fronts.{left_at as at}
 use Rattle.udp1_packets.proofs.VectorLemmas.{fill_from}
-use Rattle.udp1_packets.proofs.WholeLemmas.{Decided, decided, spelled_reads, fault_answer}
+use Rattle.udp1_packets.proofs.WholeLemmas.{decided, spelled_reads, fault_answer}
 
--- an answer is at most one refusal
-err_is : {X : Type 0} {r q : Refusal1} → (let refuse : Refusal1 → Result X Refusal1 = λ e. Err e in refuse r ≡ refuse q) → r ≡ q
-err_is e = cc
-
--- what is read was spelled
-pub was_spelled : (bytes : List ℕ) (p : Packet) → IsBytes bytes → packet_at (at 0 bytes) ≡ Ok p → Spells bytes p
-was_spelled bytes p good is = elim (decided bytes good) [
-  | inl s ↦ subst (Spells bytes) (ok_is s.0 p (spelled_reads bytes s.0 s.1) is) s.1
-  | inr f ↦ not_both p f.0 is (fault_answer bytes f.0 f.1)
-]
-
--- a refusal is the first fault
-pub was_fault : (bytes : List ℕ) (r : Refusal1) → IsBytes bytes → packet_at (at 0 bytes) ≡ Err r → Refused bytes r
-was_fault bytes r good is = elim (decided bytes good) [
-  | inl s ↦ not_both s.0 r (spelled_reads bytes s.0 s.1) is
-  | inr f ↦ subst (Refused bytes) (err_is (sym (fault_answer bytes f.0 f.1) ∙ is)) f.1
-]
-
--- bytes spell at most one packet
-pub one_value : (bytes : List ℕ) (p q : Packet) → Spells bytes p → Spells bytes q → p ≡ q
-one_value bytes p q s t = ok_is p q (spelled_reads bytes p s) (spelled_reads bytes q t)
-
--- bytes have at most one first fault
-pub one_fault : (bytes : List ℕ) (r q : Refusal1) → Refused bytes r → Refused bytes q → r ≡ q
-one_fault bytes r q f g = err_is (sym (fault_answer bytes r f) ∙ fault_answer bytes q g)
-
--- bytes that spell a packet have no fault
-pub never_both : (bytes : List ℕ) (p : Packet) (r : Refusal1) → Spells bytes p → Refused bytes r → ⊥
-never_both bytes p r s f = not_both p r (spelled_reads bytes p s) (fault_answer bytes r f)
+-- what bytes mean: what is spelled is read, each fault is the answer, and there is one of both
+pub meaning : Meaning (λ bytes. packet_at (at 0 bytes)) (λ p bytes. Spells bytes p) Refused
+meaning = record {
+  reads = λ p bytes s. spelled_reads bytes p s;
+  refuses = λ r bytes f. fault_answer bytes r f;
+  decides = λ bytes good. decided bytes good;
+}
 
 -- ---- what a writer spells
 
@@ -73,7 +50,7 @@ written_spells p is = record { choice = zeros p.body; allowed = zeros_allowed p.
 
 -- and nothing else
 pub written_means : (p q : Packet) → IsPacket p → Spells (spelled p) q → q ≡ p
-written_means p q is s = one_value (spelled p) q p s (written_spells p is)
+written_means p q is s = one_value meaning q p (spelled p) s (written_spells p is)
 
 -- a writer whose bytes fit does not refuse
 pub never_refused : {P : Type 0} (p : Packet) (out : List ℕ) (first : Spot) (e : NoRoom) → first ≡ record { before = []; after = out } → puts (written_fields p) first ≡ Err e → length (spelled p) ≤ length out → P
@@ -85,7 +62,7 @@ never_refused p out first e starts refused fits =
 -- ---- the same of what a reader answered
 
 found_by : (bytes : List ℕ) (r : Result Packet1 Refusal1) → IsBytes bytes → Answers packet_of r (packet_at (at 0 bytes)) → IfOk r (λ p. Spells bytes (packet_of p))
-found_by bytes (Ok p) good is = was_spelled bytes (packet_of p) good is
+found_by bytes (Ok p) good is = was_spelled meaning (packet_of p) bytes good is
 found_by bytes (Err e) good is = tt
 
 only_by : (bytes : List ℕ) (r : Result Packet1 Refusal1) → Answers packet_of r (packet_at (at 0 bytes)) → (p : Packet) → Spells bytes p → IsOkAnd r (λ q. packet_of q ≡ p)
@@ -94,7 +71,7 @@ only_by bytes (Err e) is p s = not_both p e (spelled_reads bytes p s) is
 
 fault_by : (bytes : List ℕ) (r : Result Packet1 Refusal1) → IsBytes bytes → Answers packet_of r (packet_at (at 0 bytes)) → IfErr r (Refused bytes)
 fault_by bytes (Ok p) good is = tt
-fault_by bytes (Err e) good is = was_fault bytes e good is
+fault_by bytes (Err e) good is = was_fault meaning e bytes good is
 
 pub record Answered (bytes : List ℕ) (r : Result Packet1 Refusal1) : Type 0 where
   pub found : IfOk r (λ p. Spells bytes (packet_of p))

@@ -1,23 +1,22 @@
 -- The vector of a packet: what its reading gives at bytes that spell it and at each fault, and that
 -- bytes spell it or have a fault.
-use Rattle.std.proofs.Common.{◌≡◌, ◌⊎◌, inl, inr, ℕ, zero, suc, ◌+◌, ◌-◌, ◌%◌, ◌^◌, ◌<◌, ◌≤◌, Bool, true, false, not, cond, ltb, List, [], ◌∷◌, ◌++◌, length, Option, Some, None, Result, Ok, Err, refl, sym, ap, ◌∙◌, subst, arith, append_assoc, append-nil}
+use Rattle.std.proofs.Common.{◌≡◌, ◌⊎◌, inl, inr, ℕ, ◌+◌, ◌%◌, ◌^◌, ◌<◌, ◌≤◌, Bool, true, false, cond, ltb, List, [], ◌∷◌, ◌++◌, length, Option, Some, None, Ok, Err, refl, sym, ap, ◌∙◌, arith, append_assoc}
 use Rattle.std.specs.List.{All, position_from}
-use Rattle.std.specs.Option.{is_some, IfSome}
+use Rattle.std.specs.Option.{is_some}
 use Rattle.std.proofs.lemmas.Bool.{cases_lt, lt-ltb, le-ltb, cond-true, cond-false, true≢false, false≢true}
 use Rattle.std.proofs.lemmas.List.{length-append}
 use Rattle.byteorder.specs.Endian.{big_bytes}
-use Rattle.mt_base.specs.Reading.{Left, block}
-use Rattle.mt_base.specs.Writing.{joined}
-use Rattle.mt_base.proofs.Fields.{Begins, big_or, block_or, as_err}
+use Rattle.mt_base.proofs.Fields.{Begins, big_or, block_or}
 use Rattle.mt_base.proofs.Firsts.{NonePasses, First, first_or, first_at, none_at}
 use Rattle.ack_vector.specs.Elements.{IsGood}
 use Rattle.carrier.specs.declared.first_layout.Refusal1.{Refusal1}
 use Rattle.carrier.specs.declared.first_layout.Refusal1.TheVariants as refusal
-use Rattle.udp1_packets.specs.Layout.{IsBytes, IsVector, Fills, vector_fields, to_four}
-use Rattle.udp1_packets.specs.Reading.{◌>>=◌, cut, states_to, elements_at, size_at, vector_at, vector_where}
-use Rattle.udp1_packets.specs.Faults.{Cut, RefusedVector, size_cut, too_long, elements_cut, state_wrong, fill_cut}
+use Rattle.udp1_packets.specs.Layout.{IsBytes, IsVector, Fills, to_four}
+use Rattle.udp1_packets.specs.Reading.{states_to, elements_at, size_at, vector_at, vector_where}
+use Rattle.udp1_packets.specs.Faults.{vector_bytes, Cut, RefusedVector, size_cut, too_long, elements_cut, state_wrong, fill_cut}
 use Rattle.udp1_packets.proofs.States.{is_wrong, all_good, none_wrong, bad_passes, bad_from}
-use Rattle.udp1_packets.proofs.Pieces.{at, number_reads, number_cut, block_reads, block_cut, cut_at}
+use Rattle.mt_base.proofs.Fronts.{left_at as at}
+use Rattle.udp1_packets.proofs.Pieces.{number_reads, number_cut, block_reads, block_cut}
 
 -- ---- the size
 
@@ -91,14 +90,14 @@ vector_answer n bytes r (size_cut fault) = rw (size_short n bytes r fault) refl
 vector_answer n bytes r (too_long size rest fits many is r_is) = rw (is, size_refused size fits many n rest, r_is) refl
 vector_answer n bytes r (elements_cut size rest few is fault) =
     rw (is, size_reads size few n rest, elements_short size (n + 2) rest r fault) refl
-vector_answer n bytes r (state_wrong good others rest e few fine bad is r_is) =
+vector_answer n bytes r (state_wrong good others rest e (few, is) fine bad r_is) =
     rw (
       is,
       size_reads (length (good ++ (e ∷ others))) few n ((good ++ (e ∷ others)) ++ rest),
       elements_refused good others e fine bad (n + 2) rest,
       r_is,
     ) refl
-vector_answer n bytes r (fill_cut es rest few good is fault) =
+vector_answer n bytes r (fill_cut es rest (few, is) good fault) =
     rw (
       is,
       size_reads (length es) few n (es ++ rest),
@@ -108,19 +107,16 @@ vector_answer n bytes r (fill_cut es rest few good is fault) =
 
 -- ---- a vector that may be there
 
-abbrev pub vector_text : Option (List ℕ) → List ℕ → List ℕ
-vector_text vector padding = joined (vector_fields vector padding)
-
 pub vector_where_reads : (there : Bool) (vector : Option (List ℕ)) (padding : List ℕ) → is_some vector ≡ there → IsVector vector → Fills vector padding → (n : ℕ) (rest : List ℕ)
-    → vector_where there (at n (vector_text vector padding ++ rest)) ≡ Ok (vector, at (n + length (vector_text vector padding)) rest)
+    → vector_where there (at n (vector_bytes vector padding ++ rest)) ≡ Ok (vector, at (n + length (vector_bytes vector padding)) rest)
 unfolding vector_where
 vector_where_reads false None padding h good fills n rest = ap (λ m. Ok (None, at m rest)) (let z : n ≡ n + 0 = omega arith in z)
 vector_where_reads true None padding h good fills n rest = absurd (false≢true h)
 vector_where_reads false (Some es) padding h good fills n rest = absurd (true≢false h)
 vector_where_reads true (Some es) padding h good fills n rest =
-    let whole : vector_text (Some es) padding ++ rest ≡ big_bytes 2 (length es) ++ (es ++ (padding ++ rest)) =
+    let whole : vector_bytes (Some es) padding ++ rest ≡ big_bytes 2 (length es) ++ (es ++ (padding ++ rest)) =
     ap (λ t. big_bytes 2 (length es) ++ t) (append_assoc es (padding ++ []) rest ∙ ap (λ t. es ++ t) (append_assoc padding [] rest)) in
-    let place : n + 2 + length es + length padding ≡ n + length (vector_text (Some es) padding) = omega (arith, length-append es (padding ++ []), length-append padding []) in
+    let place : n + 2 + length es + length padding ≡ n + length (vector_bytes (Some es) padding) = omega (arith, length-append es (padding ++ []), length-append padding []) in
     rw (whole, vector_reads es padding good fills n rest) (ap (λ m. Ok (Some es, at m rest)) place)
 
 pub vector_where_refused : (there : Bool) → there ≡ true → (n : ℕ) (bytes : List ℕ) (r : Refusal1) → RefusedVector n bytes r → vector_where there (at n bytes) ≡ Err r
@@ -136,7 +132,7 @@ pub record Vectored (there : Bool) (bytes : List ℕ) : Type 0 where
   pub there_is : is_some vector ≡ there
   pub good : IsVector vector
   pub fills : Fills vector padding
-  pub bytes_are : bytes ≡ vector_text vector padding ++ rest
+  pub bytes_are : bytes ≡ vector_bytes vector padding ++ rest
   pub bytes_behind : IsBytes rest
 
 abbrev pub Decided : Bool → ℕ → List ℕ → Type 0
@@ -147,7 +143,7 @@ vector_or n bytes good = by_size (big_or 2 bytes good)
   where
     by_fill : (es rest : List ℕ) → length es ≤ 2048 → All IsGood es → bytes ≡ big_bytes 2 (length es) ++ (es ++ rest)
         → (length rest < to_four (2 + length es)) ⊎ Begins (λ x. x) (λ x. (length x ≡ to_four (2 + length es)) × IsBytes x) rest → Decided true n bytes
-    by_fill es rest few fine is (inl short) = inl (_, refl, fill_cut es rest few fine is (short, refl))
+    by_fill es rest few fine is (inl short) = inl (_, refl, fill_cut es rest (few, is) fine (short, refl))
     by_fill es rest few fine is (inr p) = inr (record {
       vector = Some es;
       padding = p.value;
@@ -163,7 +159,7 @@ vector_or n bytes good = by_size (big_or 2 bytes good)
     by_states es rest few is behind (inl none) = by_fill es rest few (none_wrong es none) is (block_or (to_four (2 + length es)) rest behind)
     by_states es rest few is behind (inr f) =
         let whole : bytes ≡ big_bytes 2 (length (f.front ++ (f.element ∷ f.rest))) ++ ((f.front ++ (f.element ∷ f.rest)) ++ rest) = is ∙ ap (λ t. big_bytes 2 (length t) ++ (t ++ rest)) f.xs_are in
-        inl (_, refl, state_wrong f.front f.rest rest f.element (omega (arith, few, ap length f.xs_are)) (none_wrong f.front f.before) (bad_from f.element f.passes) whole refl)
+        inl (_, refl, state_wrong f.front f.rest rest f.element (omega (arith, few, ap length f.xs_are), whole) (none_wrong f.front f.before) (bad_from f.element f.passes) refl)
 
     by_elements : (size : ℕ) (rest : List ℕ) → size ≤ 2048 → bytes ≡ big_bytes 2 size ++ rest → (length rest < size) ⊎ Begins (λ x. x) (λ x. (length x ≡ size) × IsBytes x) rest → Decided true n bytes
     by_elements size rest few is (inl short) = inl (_, refl, elements_cut size rest few is (short, refl))

@@ -1,6 +1,6 @@
 -- The whole packet: what is spelled is read, each fault is the answer, and bytes are spelled or have
 -- a fault.
-use Rattle.std.proofs.Common.{◌≡◌, ◌⊎◌, inl, inr, ℕ, ◌+◌, ◌^◌, ◌<◌, Bool, true, false, cond, bit_and, List, [], ◌∷◌, ◌++◌, length, Option, Some, None, Result, Ok, Err, refl, sym, ap, ◌∙◌, subst, arith}
+use Rattle.std.proofs.Common.{◌≡◌, ◌⊎◌, inl, inr, ℕ, ◌+◌, ◌^◌, ◌<◌, true, false, bit_and, List, ◌++◌, length, Option, Ok, Err, refl, sym, ap, ◌∙◌}
 use Rattle.std.specs.Option.{is_some}
 use Rattle.std.proofs.lemmas.Bool.{cases_Bool}
 use Rattle.byteorder.specs.Endian.{big_bytes}
@@ -10,12 +10,12 @@ use Rattle.mt_base.proofs.Fields.{Begins, big_or, as_err}
 use Rattle.carrier.specs.declared.first_layout.Refusal1.{Refusal1}
 use Rattle.carrier.specs.declared.first_layout.Refusal1.TheVariants as refusal
 use Rattle.udp1_packets.specs.Value.{Syn, Body, SynBody, DataBody, FecBody, BareBody, Packet}
-use Rattle.udp1_packets.specs.Layout.{has, flag_if, announced, mark_mask, flags, IsBytes, IsBody, IsPacket, Allows, Choice, Spells, body_fields, fields, zeros}
-use Rattle.udp1_packets.specs.Reading.{◌>>=◌, cut, syn_at, opening_at, told_at, marks_in, body_at, packet_at}
-use Rattle.udp1_packets.specs.Faults.{Cut, RefusedSyn, RefusedTold, Headed, Refused, ack_cut, window_cut, word_cut, with_data, syn_wrong, told_wrong}
-use Rattle.udp1_packets.proofs.Words.{ShowsSyn, syn_word, ShowsTold, data_word, fec_word, bare_word, no_fec, with_fec, syn_is, data_is, fec_is, bare_is, under_mask}
-use Rattle.udp1_packets.proofs.Pieces.{at, number_reads, number_cut}
-use Rattle.udp1_packets.proofs.SynLemmas
+use Rattle.udp1_packets.specs.Layout.{has, flag_if, announced, mark_mask, IsBytes, IsBody, Allows, Choice, Spells, body_fields, zeros}
+use Rattle.udp1_packets.specs.Reading.{◌>>=◌, syn_at, opening_at, told_at, marks_in, body_at, packet_at}
+use Rattle.udp1_packets.specs.Faults.{RefusedSyn, RefusedTold, Headed, Refused, ack_cut, window_cut, word_cut, with_data, syn_wrong, told_wrong}
+use Rattle.udp1_packets.proofs.Words.{syn_word, data_word, fec_word, bare_word, no_fec, with_fec, syn_is, data_is, fec_is, bare_is, under_mask}
+use Rattle.mt_base.proofs.Fronts.{left_at as at}
+use Rattle.udp1_packets.proofs.Pieces.{number_reads, number_cut}
 use Rattle.udp1_packets.proofs.SynLemmas.{syn_reads, syn_answer, syn_or, IsOpening}
 use Rattle.udp1_packets.proofs.ToldLemmas
 use Rattle.udp1_packets.proofs.ToldLemmas.{data_body, fec_body, bare_body, told_answer, IsBehind, Kind, told_or}
@@ -74,7 +74,7 @@ parts_read bytes ack window marks (DataBody vector aoa coded start content) s =
     body_reads bytes ack window marks word body (joined (body_fields body s.choice)) (headed bytes ack window marks body s w.fits) w.marks_are
     (tells word (at 8 (joined (body_fields body s.choice))) w.syn
     ∙ data_body word vector aoa coded start content s.choice s.is.body_is s.allowed (record { vector_there = sym w.vector_is; aoa_there = sym w.aoa_is }) w.data_is
-      (no_fec marks (is_some vector) (is_some aoa) s.is.marks_within))
+    (no_fec marks (is_some vector) (is_some aoa) s.is.marks_within))
 parts_read bytes ack window marks (FecBody vector aoa coded start range index content) s =
     let body = FecBody vector aoa coded start range index content in
     let w = fec_word marks (is_some vector) (is_some aoa) s.is.marks_within in
@@ -82,7 +82,7 @@ parts_read bytes ack window marks (FecBody vector aoa coded start range index co
     body_reads bytes ack window marks word body (joined (body_fields body s.choice)) (headed bytes ack window marks body s w.fits) w.marks_are
     (tells word (at 8 (joined (body_fields body s.choice))) w.syn
     ∙ fec_body word vector aoa coded start range index content s.choice s.is.body_is s.allowed (record { vector_there = sym w.vector_is; aoa_there = sym w.aoa_is }) w.data_is
-      (with_fec marks (is_some vector) (is_some aoa) s.is.marks_within))
+    (with_fec marks (is_some vector) (is_some aoa) s.is.marks_within))
 parts_read bytes ack window marks (BareBody vector aoa content) s =
     let body = BareBody vector aoa content in
     let w = bare_word marks (is_some vector) (is_some aoa) s.is.marks_within in
@@ -121,13 +121,16 @@ Decided bytes = ((p : Packet) × Spells bytes p) ⊎ ((r : Refusal1) × Refused 
 -- a header whose word is the marks and what the body announces
 spelled_by : (bytes : List ℕ) (ack window marks word : ℕ) (body : Body) (choice : Choice) (rest : List ℕ) → Headed bytes ack window word rest → word ≡ marks + announced body
     → bit_and marks (mark_mask body) ≡ marks → IsBody body → Allows body choice → rest ≡ joined (body_fields body choice) → Decided bytes
-spelled_by bytes ack window marks word body choice rest headed is within good allowed rest_is = inl (packet ack window marks body, record {
-  choice = choice;
-  allowed = allowed;
-  is = record { ack_fits = headed.0; window_fits = headed.1; marks_within = within; body_is = good };
-  bytes_are = headed.3 ∙ ap (λ w. big_bytes 4 ack ++ (big_bytes 2 window ++ (big_bytes 2 w ++ rest))) is
-      ∙ ap (λ t. big_bytes 4 ack ++ (big_bytes 2 window ++ (big_bytes 2 (marks + announced body) ++ t))) rest_is;
-})
+spelled_by bytes ack window marks word body choice rest headed is within good allowed rest_is = inl (
+  packet ack window marks body,
+  record {
+    choice = choice;
+    allowed = allowed;
+    is = record { ack_fits = headed.0; window_fits = headed.1; marks_within = within; body_is = good };
+    bytes_are = headed.3 ∙ ap (λ w. big_bytes 4 ack ++ (big_bytes 2 window ++ (big_bytes 2 w ++ rest))) is
+        ∙ ap (λ t. big_bytes 4 ack ++ (big_bytes 2 window ++ (big_bytes 2 (marks + announced body) ++ t))) rest_is;
+  },
+)
 
 -- the flags of a word by what is there
 syn_flags : (word : ℕ) (s : Syn) → s.answer ≡ has word 0x0004 → is_some s.correlation ≡ has word 0x0800 → is_some s.extension ≡ has word 0x1000

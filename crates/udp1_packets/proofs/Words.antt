@@ -1,7 +1,7 @@
 -- The word of flags: what it shows of a packet, and that it is the sum of what it shows.
-use Rattle.std.proofs.Common.{◌≡◌, ℕ, ◌+◌, ◌^◌, ◌<◌, ◌≤◌, ◌⊎◌, inl, inr, Bool, true, false, not, eqb, bit_and, bit_or, cond, Option, Some, None, refl, sym, ap, ◌∙◌, arith}
+use Rattle.std.proofs.Common.{◌≡◌, ℕ, ◌+◌, ◌^◌, ◌<◌, inl, inr, Bool, true, false, not, eqb, bit_and, bit_or, cond, refl, sym, ap, ◌∙◌, arith}
 use Rattle.std.specs.Option.{is_some}
-use Rattle.std.proofs.lemmas.Bool.{cases_Bool, eq-eqb, ne_eqb, eqb-true, not-false}
+use Rattle.std.proofs.lemmas.Bool.{ne_eqb, eqb-true, not-false}
 use Rattle.std.proofs.lemmas.Nat.{and_le_r, or_disjoint}
 use Rattle.mt_base.proofs.Masks.{and_sum, apart_from, shown, kept, whole_word, flag_or}
 use Rattle.udp1_packets.specs.Value.{Body, SynBody, DataBody, FecBody, BareBody}
@@ -140,7 +140,7 @@ syn_is w fits on off =
     let correlation = flag_is w 11 in
     let extension = flag_is w 12 in
     sum (bit_and w 0xE600) (bit_and w 0x0001) (bit_and w 0x01FA) (bit_and w 0x0004) (bit_and w 0x0800) (bit_and w 0x1000) (flag_if (has w 0x0004) 0x0004) (flag_if (has w 0x0800) 0x0800) (flag_if (has w 0x1000) 0x1000)
-    (sym (whole_word w fits) ∙ and_sum w 0xEFFF 0x1000 refl) (and_sum w 0xE7FF 0x0800 refl) (and_sum w 0xE7FB 0x0004 refl) (and_sum w 0xE601 0x01FA refl ) (and_sum w 0xE600 0x0001 refl)
+    (sym (whole_word w fits) ∙ and_sum w 0xEFFF 0x1000 refl) (and_sum w 0xE7FF 0x0800 refl) (and_sum w 0xE7FB 0x0004 refl) (and_sum w 0xE601 0x01FA refl) (and_sum w 0xE600 0x0001 refl)
     one none four correlation extension
   where
     sum : (m s o a c e fa fc fe : ℕ) → w ≡ bit_and w 0xEFFF + e → bit_and w 0xEFFF ≡ bit_and w 0xE7FF + c → bit_and w 0xE7FF ≡ bit_and w 0xE7FB + a → bit_and w 0xE7FB ≡ bit_and w 0xE601 + o → bit_and w 0xE601 ≡ m + s
@@ -214,6 +214,8 @@ fec_code false false = refl
 fec_code false true = refl
 fec_code true false = refl
 fec_code true true = refl
+
+pub ruleset codes = (syn_code, data_code, fec_code)
 
 -- the flags that announce a body have no mark among them
 pub announced_apart : (body : Body) → bit_and (mark_mask body) (announced body) ≡ 0

@@ -21,7 +21,8 @@ flag_if set flag = if set then flag else 0
 -- ACK_OF_ACKS 0x0100, CORRELATION_ID 0x0800, SYNEX 0x1000.
 abbrev pub announced : Body → ℕ
 announced (SynBody s) =
-    0x0001 + flag_if s.answer 0x0004 + flag_if (is_some s.correlation) 0x0800 + flag_if (is_some s.extension) 0x1000
+    0x0001 + flag_if s.answer 0x0004 + flag_if (is_some s.correlation) 0x0800
+    + flag_if (is_some s.extension) 0x1000
 announced (DataBody vector aoa coded start bytes) =
     0x0008 + flag_if (is_some vector) 0x0004 + flag_if (is_some aoa) 0x0100
 announced (FecBody vector aoa coded start range index bytes) =
@@ -69,20 +70,26 @@ abbrev pub aoa_fields : Option ℕ → List (List ℕ)
 aoa_fields None = []
 aoa_fields (Some number) = big_bytes 4 number ∷ []
 
--- sections 2.2.2.5 and 2.2.2.8 for an opening packet, 2.2.2.3 for data, 2.2.2.2 for FEC
+-- sections 2.2.2.5 and 2.2.2.8 for an opening packet, 2.2.2.4 for data, 2.2.2.2 for FEC
 abbrev pub body_fields : Body → Choice → List (List ℕ)
 body_fields (SynBody s) c =
-    big_bytes 4 s.initial ∷ big_bytes 2 s.up ∷ big_bytes 2 s.down ∷ (block_fields s.correlation ++ (extension_fields s.extension ++ (replicate s.padding 0 ∷ [])))
+    big_bytes 4 s.initial ∷ big_bytes 2 s.up ∷ big_bytes 2 s.down
+    ∷ (block_fields s.correlation ++ (extension_fields s.extension ++ (replicate s.padding 0 ∷ [])))
 body_fields (DataBody vector aoa coded start bytes) c =
-    vector_fields vector c.after_vector ++ (aoa_fields aoa ++ (big_bytes 4 coded ∷ big_bytes 4 start ∷ bytes ∷ []))
+    vector_fields vector c.after_vector
+    ++ (aoa_fields aoa ++ (big_bytes 4 coded ∷ big_bytes 4 start ∷ bytes ∷ []))
 body_fields (FecBody vector aoa coded start range index bytes) c =
-    vector_fields vector c.after_vector ++ (aoa_fields aoa ++ (big_bytes 4 coded ∷ big_bytes 4 start ∷ big_bytes 1 range ∷ big_bytes 1 index ∷ c.after_index ∷ bytes ∷ []))
+    vector_fields vector c.after_vector
+    ++ (aoa_fields aoa
+    ++ (big_bytes 4 coded ∷ big_bytes 4 start
+    ∷ big_bytes 1 range ∷ big_bytes 1 index ∷ c.after_index ∷ bytes ∷ []))
 body_fields (BareBody vector aoa rest) c =
     vector_fields vector c.after_vector ++ (aoa_fields aoa ++ (rest ∷ []))
 
 -- the fields of a packet in order (the header is section 2.2.2.1)
 abbrev pub fields : Packet → Choice → List (List ℕ)
-fields p c = big_bytes 4 p.ack ∷ big_bytes 2 p.window ∷ big_bytes 2 (flags p) ∷ body_fields p.body c
+fields p c =
+    big_bytes 4 p.ack ∷ big_bytes 2 p.window ∷ big_bytes 2 (flags p) ∷ body_fields p.body c
 
 -- ---- the values that the layout has
 
@@ -95,7 +102,8 @@ IsMtu mtu = (1132 ≤ mtu) × (mtu ≤ 1232)
 
 -- bytes of this number are there exactly where something is so
 abbrev pub IsBlock : Bool → ℕ → Option (List ℕ) → Type 0
-IsBlock there count block = (is_some block ≡ there) × IfSome block (λ bytes. (length bytes ≡ count) × IsBytes bytes)
+IsBlock there count block =
+    (is_some block ≡ there) × IfSome block (λ bytes. (length bytes ≡ count) × IsBytes bytes)
 
 -- the first flag says that the version is valid
 abbrev pub is_valid : ℕ → Bool
@@ -131,9 +139,11 @@ pub record IsTold (vector : Option (List ℕ)) (aoa : Option ℕ) : Type 0 where
 
 abbrev pub IsBody : Body → Type 0
 IsBody (SynBody s) = IsSyn s
-IsBody (DataBody vector aoa coded start bytes) = IsTold vector aoa × (coded < 2 ^ 32) × (start < 2 ^ 32) × IsBytes bytes
+IsBody (DataBody vector aoa coded start bytes) =
+    IsTold vector aoa × (coded < 2 ^ 32) × (start < 2 ^ 32) × IsBytes bytes
 IsBody (FecBody vector aoa coded start range index bytes) =
-    IsTold vector aoa × (coded < 2 ^ 32) × (start < 2 ^ 32) × (range < 2 ^ 8) × (index < 2 ^ 8) × IsBytes bytes
+    IsTold vector aoa × (coded < 2 ^ 32) × (start < 2 ^ 32) × (range < 2 ^ 8) × (index < 2 ^ 8)
+    × IsBytes bytes
 IsBody (BareBody vector aoa rest) = IsTold vector aoa × IsBytes rest
 
 -- the layout has this value
@@ -148,12 +158,14 @@ pub record IsPacket (p : Packet) : Type 0 where
 -- bytes that fill the last four-byte unit of a vector's size and elements, where there is a vector
 abbrev pub Fills : Option (List ℕ) → List ℕ → Type 0
 Fills None padding = padding ≡ []
-Fills (Some elements) padding = (length padding < 4) × ((2 + length elements + length padding) % 4 ≡ 0) × IsBytes padding
+Fills (Some elements) padding =
+    (length padding < 4) × ((2 + length elements + length padding) % 4 ≡ 0) × IsBytes padding
 
 -- a choice that the layout of this body leaves
 abbrev pub Allows : Body → Choice → Type 0
 Allows (SynBody s) c = (c.after_vector ≡ []) × (c.after_index ≡ [])
-Allows (DataBody vector aoa coded start bytes) c = Fills vector c.after_vector × (c.after_index ≡ [])
+Allows (DataBody vector aoa coded start bytes) c =
+    Fills vector c.after_vector × (c.after_index ≡ [])
 Allows (FecBody vector aoa coded start range index bytes) c =
     Fills vector c.after_vector × (length c.after_index ≡ 2) × IsBytes c.after_index
 Allows (BareBody vector aoa rest) c = Fills vector c.after_vector × (c.after_index ≡ [])
@@ -177,8 +189,10 @@ zeros_after (Some elements) = replicate (to_four (2 + length elements)) 0
 
 abbrev pub zeros : Body → Choice
 zeros (SynBody s) = record { after_vector = []; after_index = [] }
-zeros (DataBody vector aoa coded start bytes) = record { after_vector = zeros_after vector; after_index = [] }
-zeros (FecBody vector aoa coded start range index bytes) = record { after_vector = zeros_after vector; after_index = 0 ∷ 0 ∷ [] }
+zeros (DataBody vector aoa coded start bytes) =
+    record { after_vector = zeros_after vector; after_index = [] }
+zeros (FecBody vector aoa coded start range index bytes) =
+    record { after_vector = zeros_after vector; after_index = 0 ∷ 0 ∷ [] }
 zeros (BareBody vector aoa rest) = record { after_vector = zeros_after vector; after_index = [] }
 
 -- the fields that a writer writes, and their bytes

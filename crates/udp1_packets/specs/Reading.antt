@@ -1,10 +1,10 @@
 -- Reading a packet field by field: the packet, or the first fault. This is what the code's parts
 -- are proved against; what it means is said by the layout and by the faults, which it meets.
-use Rattle.std.specs.Prelude.{◌≡◌, ℕ, ◌+◌, ◌/◌, ◌==◌, Bool, true, false, ◌&&◌, ◌||◌, not, List, length, replicate, slice_index, nat_lt, eqb, if◌then◌else◌, Option, Some, None, Result, Ok, Err}
+use Rattle.std.specs.Prelude.{◌≡◌, ℕ, ◌+◌, ◌/◌, Bool, true, false, ◌&&◌, ◌||◌, not, List, length, nat_lt, eqb, if◌then◌else◌, Option, Some, None, Result, Ok, Err}
 use Rattle.std.specs.List.{position_from}
 use Rattle.std.specs.Int.RustNames.{bit_and}
 use Rattle.mt_base.specs.declared.errors.Short.{Short}
-use Rattle.mt_base.specs.Reading.{Left, past, block, big}
+use Rattle.mt_base.specs.Reading.{Left, block, big}
 use Rattle.carrier.specs.declared.first_layout.Refusal1.{Refusal1}
 use Rattle.carrier.specs.declared.first_layout.Refusal1.TheVariants as refusal
 use Rattle.udp1_packets.specs.Value.{Extended, Syn, Body, SynBody, DataBody, FecBody, BareBody, Packet}
@@ -22,7 +22,8 @@ cut (Ok x) = Ok x
 cut (Err e) = Err (refusal.Short e)
 
 -- a part that a flag announces
-abbrev pub where_set : {A : Type 0} → Bool → (Left → Result (A × Left) Refusal1) → Left → Result (Option A × Left) Refusal1
+abbrev pub where_set : {A : Type 0} → Bool → (Left → Result (A × Left) Refusal1) → Left
+    → Result (Option A × Left) Refusal1
 where_set false read s = Ok (None, s)
 where_set true read s = read s >>= λ x. Ok (Some x.0, x.1)
 
@@ -71,14 +72,23 @@ syn_with answer correlated extended s = do
   correlation ← block32_at correlated down.1
   extension ← extended_at extended answer correlation.1
   padding ← zeros_at extension.1
-  Ok (record { answer = answer; initial = initial.0; up = up.0; down = down.0; correlation = correlation.0; extension = extension.0; padding = padding })
+  Ok (record {
+    answer = answer;
+    initial = initial.0;
+    up = up.0;
+    down = down.0;
+    correlation = correlation.0;
+    extension = extension.0;
+    padding = padding;
+  })
 
 abbrev pub syn_at : ℕ → Left → Result Syn Refusal1
 syn_at flags s = syn_with (has flags 0x0004) (has flags 0x0800) (has flags 0x1000) s
 
 unfoldable pub opening_at : ℕ → Left → Result Body Refusal1
 opening_at flags s =
-    if has flags 0x01FA then Err (refusal.SynWithData 6) else syn_at flags s >>= λ syn. Ok (SynBody syn)
+    if has flags 0x01FA then Err (refusal.SynWithData 6)
+    else syn_at flags s >>= λ syn. Ok (SynBody syn)
 
 -- ---- other packets
 
@@ -130,7 +140,8 @@ fec_at vector aoa s = do
 
 unfoldable pub rest_at : ℕ → Option (List ℕ) → Option ℕ → Left → Result Body Refusal1
 rest_at flags vector aoa s =
-    if has flags 0x0008 then (if has flags 0x0010 then fec_at vector aoa s else data_at vector aoa s)
+    if has flags 0x0008 then
+    (if has flags 0x0010 then fec_at vector aoa s else data_at vector aoa s)
     else Ok (BareBody vector aoa s.bytes)
 
 unfoldable pub told_at : ℕ → Left → Result Body Refusal1
@@ -143,7 +154,8 @@ told_at flags s = do
 
 abbrev pub marks_in : ℕ → ℕ
 marks_in flags =
-    if has flags 0x0001 then bit_and flags 0xE600 else if has flags 0x0008 then bit_and flags 0xFEE2 else bit_and flags 0xFEF2
+    if has flags 0x0001 then bit_and flags 0xE600
+    else if has flags 0x0008 then bit_and flags 0xFEE2 else bit_and flags 0xFEF2
 
 unfoldable pub body_at : ℕ → Left → Result Body Refusal1
 body_at flags s = if has flags 0x0001 then opening_at flags s else told_at flags s
@@ -158,7 +170,8 @@ packet_at s = do
 
 -- What a reader of a part returned, seen by `view`, and what it left are what reading gives. After
 -- a refusal nothing is said of the cursor.
-abbrev pub Reads : {X Y : Type 0} → (X → Y) → Left → Result X Refusal1 → Result (Y × Left) Refusal1 → Type 0
+abbrev pub Reads : {X Y : Type 0} → (X → Y) → Left → Result X Refusal1 → Result (Y × Left) Refusal1
+    → Type 0
 Reads view new (Ok x) read = read ≡ Ok (view x, new)
 Reads view new (Err e) read = read ≡ Err e
 

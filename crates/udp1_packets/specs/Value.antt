@@ -23,7 +23,8 @@ pub record Syn : Type 0 where
 pub data Body : Type 0 where
   SynBody : (syn : Syn) → Body
   DataBody : (vector : Option (List ℕ)) (aoa : Option ℕ) (coded start : ℕ) (bytes : List ℕ) → Body
-  FecBody : (vector : Option (List ℕ)) (aoa : Option ℕ) (coded start range index : ℕ) (bytes : List ℕ) → Body
+  FecBody : (vector : Option (List ℕ)) (aoa : Option ℕ) (coded start range index : ℕ)
+      (bytes : List ℕ) → Body
   BareBody : (vector : Option (List ℕ)) (aoa : Option ℕ) (rest : List ℕ) → Body
 
 -- `marks` are the flags that announce nothing in the packet

@@ -23,8 +23,10 @@ syn_of s = record {
 
 abbrev pub body_of : Body1 → Body
 body_of (code.Syn syn) = SynBody (syn_of syn)
-body_of (code.Data vector aoa coded start bytes) = DataBody (option_copied vector) aoa coded start bytes.now
-body_of (code.Fec vector aoa coded start range index bytes) = FecBody (option_copied vector) aoa coded start range index bytes.now
+body_of (code.Data vector aoa coded start bytes) =
+    DataBody (option_copied vector) aoa coded start bytes.now
+body_of (code.Fec vector aoa coded start range index bytes) =
+    FecBody (option_copied vector) aoa coded start range index bytes.now
 body_of (code.Bare vector aoa rest) = BareBody (option_copied vector) aoa rest.now
 
 abbrev pub packet_of : Packet1 → Packet

@@ -10,12 +10,16 @@
 
 mod flags;
 mod laws;
+mod opening;
 mod packet;
 mod read;
 mod write;
 
 pub use carrier::Refusal1;
-pub use laws::{one_meaning, written_is_read};
+pub use laws::{one_meaning, opening_byte, written_is_read};
 pub use packet::{Body1, Extension, Packet1, Syn1};
 pub use read::read1;
 pub use write::write1;
+
+#[cfg(test)]
+mod tests;

@@ -18,7 +18,7 @@ pub struct Packet1<'a> {
 pub enum Body1<'a> {
     /// A connection is opened, or its opening answered.
     Syn(Syn1<'a>),
-    /// A source packet (section 2.2.2.3).
+    /// A source packet (section 2.2.2.4).
     Data {
         vector: Option<&'a [u8]>,
         aoa: Option<u32>,

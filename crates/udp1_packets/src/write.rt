@@ -29,7 +29,8 @@ fn put_zeros(out: &mut Out<'_>, count: usize) -> Result<(), NoRoom>
 
 fn put_block(out: &mut Out<'_>, block: Option<&[u8]>) -> Result<(), NoRoom>
     ensures same { out.new.bytes.ghost_name ≡ out.old.bytes.ghost_name }
-    ensures written { Writes (spot out.new) result (puts (block_fields (option_copied block.entry)) (spot out.old)) }
+    ensures written { let fields = block_fields (option_copied block.entry) in
+        Writes (spot out.new) result (puts fields (spot out.old)) }
 {
     match block {
         None => Ok(()),
@@ -39,7 +40,8 @@ fn put_block(out: &mut Out<'_>, block: Option<&[u8]>) -> Result<(), NoRoom>
 
 fn put_extension(out: &mut Out<'_>, extension: Option<Extension<'_>>) -> Result<(), NoRoom>
     ensures same { out.new.bytes.ghost_name ≡ out.old.bytes.ghost_name }
-    ensures written { Writes (spot out.new) result (puts (extension_fields (option_map extended_of extension.entry)) (spot out.old)) }
+    ensures written { let fields = extension_fields (option_map extended_of extension.entry) in
+        Writes (spot out.new) result (puts fields (spot out.old)) }
 {
     match extension {
         None => Ok(()),
@@ -54,7 +56,8 @@ fn put_extension(out: &mut Out<'_>, extension: Option<Extension<'_>>) -> Result<
 #[tactic(auto, using(mt_base::proofs::Steps::by_parts))]
 fn put_syn(out: &mut Out<'_>, syn: &Syn1<'_>) -> Result<(), NoRoom>
     ensures same { out.new.bytes.ghost_name ≡ out.old.bytes.ghost_name }
-    ensures written { Writes (spot out.new) result (puts (body_fields (SynBody (syn_of syn.now)) (zeros (SynBody (syn_of syn.now)))) (spot out.old)) }
+    ensures written { let body = SynBody (syn_of syn.now) in
+        Writes (spot out.new) result (puts (body_fields body (zeros body)) (spot out.old)) }
 {
     out.put_u32_be(syn.initial)?;
     out.put_u16_be(syn.up)?;
@@ -69,7 +72,8 @@ fn put_vector(out: &mut Out<'_>, vector: Option<&[u8]>) -> Result<(), NoRoom>
     requires { IsVector (option_copied vector) }
     ensures same { out.new.bytes.ghost_name ≡ out.old.bytes.ghost_name }
     ensures written { let elements = option_copied vector.entry in
-        Writes (spot out.new) result (puts (vector_fields elements (zeros_after elements)) (spot out.old)) }
+        let fields = vector_fields elements (zeros_after elements) in
+        Writes (spot out.new) result (puts fields (spot out.old)) }
 {
     match vector {
         None => Ok(()),
@@ -93,15 +97,12 @@ fn put_number(out: &mut Out<'_>, number: Option<u32>) -> Result<(), NoRoom>
 
 /// Writes the vector and the acknowledgement of acknowledgements.
 #[tactic(auto, using(mt_base::proofs::Steps::by_parts))]
-fn put_told(
-    out: &mut Out<'_>,
-    vector: Option<&[u8]>,
-    aoa: Option<u32>,
-) -> Result<(), NoRoom>
+fn put_told(out: &mut Out<'_>, vector: Option<&[u8]>, aoa: Option<u32>) -> Result<(), NoRoom>
     requires { IsTold (option_copied vector) aoa }
     ensures same { out.new.bytes.ghost_name ≡ out.old.bytes.ghost_name }
     ensures written { let elements = option_copied vector.entry in
-        Writes (spot out.new) result (puts (vector_fields elements (zeros_after elements) ++ aoa_fields aoa) (spot out.old)) }
+        let fields = vector_fields elements (zeros_after elements) ++ aoa_fields aoa in
+        Writes (spot out.new) result (puts fields (spot out.old)) }
 {
     put_vector(out, vector)?;
     put_number(out, aoa)
@@ -117,13 +118,14 @@ fn flag_if(set: bool, flag: u16) -> u16
 /// The flags that announce a vector and an acknowledgement of acknowledgements.
 #[tactic(auto, using(crate::proofs::Words::told_code))]
 fn announced_told(vector: Option<&[u8]>, aoa: Option<u32>) -> u16
-    ensures { result ≡ flag_if (is_some (option_copied vector.entry)) 0x0004 + flag_if (is_some aoa) 0x0100 }
+    ensures { let there = is_some (option_copied vector.entry) in
+        result ≡ flag_if there 0x0004 + flag_if (is_some aoa) 0x0100 }
 {
     flag_if(vector.is_some(), flags::ACK) | flag_if(aoa.is_some(), flags::ACK_OF_ACKS)
 }
 
 /// The flags that announce what the body holds.
-#[tactic(auto, using(crate::proofs::Words::syn_code, crate::proofs::Words::data_code, crate::proofs::Words::fec_code))]
+#[tactic(auto, using(crate::proofs::Words::codes))]
 fn announced(body: &Body1<'_>) -> u16
     ensures { result ≡ announced (body_of body.now) }
 {
@@ -135,9 +137,7 @@ fn announced(body: &Body1<'_>) -> u16
                 | flag_if(syn.extension.is_some(), flags::SYNEX)
         }
         Body1::Data { vector, aoa, .. } => flags::DATA | announced_told(vector, aoa),
-        Body1::Fec { vector, aoa, .. } => {
-            flags::DATA | flags::FEC | announced_told(vector, aoa)
-        }
+        Body1::Fec { vector, aoa, .. } => { flags::DATA | flags::FEC | announced_told(vector, aoa) }
         Body1::Bare { vector, aoa, .. } => announced_told(vector, aoa),
     }
 }
@@ -191,7 +191,8 @@ fn put_body(out: &mut Out<'_>, body: &Body1<'_>) -> Result<(), NoRoom>
 fn put_packet(out: &mut Out<'_>, packet: &Packet1<'_>) -> Result<(), NoRoom>
     requires { IsPacket (packet_of packet.now) }
     ensures same { out.new.bytes.ghost_name ≡ out.old.bytes.ghost_name }
-    ensures written { Writes (spot out.new) result (puts (written_fields (packet_of packet.now)) (spot out.old)) }
+    ensures written { let fields = written_fields (packet_of packet.now) in
+        Writes (spot out.new) result (puts fields (spot out.old)) }
 {
     out.put_u32_be(packet.ack)?;
     out.put_u16_be(packet.window)?;
@@ -209,7 +210,8 @@ pub fn write1(packet: &Packet1<'_>, out: &mut [u8]) -> Result<usize, NoRoom>
         IfOk result (λ n. (n ≡ length text) × (out.new ≡ text ++ drop n out.old)) }
     ensures fits { length (spelled (packet_of packet.now)) ≤ length out.old → IsOk result }
     // The first field that does not fit.
-    ensures no_room { IfErr result (λ e. puts (written_fields (packet_of packet.now)) (record { before = []; after = out.old }) ≡ Err e) }
+    ensures no_room { let fields = written_fields (packet_of packet.now) in
+        IfErr result (λ e. puts fields (record { before = []; after = out.old }) ≡ Err e) }
 {
     let mut place = Out::new(out);
     put_packet(&mut place, packet)?;

@@ -1,4 +1,4 @@
-use Rattle.std.proofs.Common.{◌≡◌, ◌≢◌, ◌≤◌, ℕ, Bool, true, false, eqb, ltb, List, length, take, Option, None, Some, sym, ap, ◌∙◌, ne_eqb, arith}
+use Rattle.std.proofs.Common.{◌≡◌, ◌≢◌, ℕ, ltb, List, length, take, Option, None, Some, sym, ap, ◌∙◌, ne_eqb}
 use Rattle.std.specs.List.{position_from}
 use Rattle.std.proofs.lemmas.Bool.{le-ltb, eqb-false}
 use Rattle.mt_world.specs.Play.{◌or_else◌, when, is_wrong, name_fault}

@@ -1,5 +1,4 @@
-use Rattle.std.proofs.Common.{◌≡◌, ◌<◌, ◌+◌, ◌∷◌, length, drop, sym, ap, ◌∙◌, add-one, arith}
-use Rattle.std.proofs.Math.Seq.{drop-cons}
+use Rattle.std.proofs.Common.{◌<◌, ◌+◌, length, drop, arith}
 use Rattle.rdpmt_program.proofs.Loop.{taken, refused, first}
 use Rattle.rdpmt_program.proofs.playing.play_lines.Goals as goal
 

@@ -1,6 +1,6 @@
 use Rattle.std.proofs.Common.{refl, sym, ap, ◌∙◌}
 use Rattle.mt_world.specs.Play.{start, play}
-use Rattle.rdpmt_program.specs.Script.{command, words, step, refused_line, step_reason}
+use Rattle.rdpmt_program.specs.Script.{command, words, step, refused_line}
 use Rattle.rdpmt_program.proofs.Runs.{gives_refusal, plays_to}
 use Rattle.rdpmt_program.proofs.playing.play_text.Goals as goal
 

@@ -1,4 +1,4 @@
-use Rattle.std.proofs.Common.{◌++◌, ◌∙◌, append_assoc}
+use Rattle.std.proofs.Common.{◌∙◌, append_assoc}
 use Rattle.rdpmt_program.proofs.playing.refused.Goals as goal
 
 pub returns-in-Ok : goal.returns-in-Ok

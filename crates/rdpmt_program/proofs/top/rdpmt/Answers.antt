@@ -1,5 +1,5 @@
-use Rattle.std.proofs.Common.{◌≡◌, ◌⊎◌, inl, inr, ℕ, refl}
-use Rattle.rdpmt_program.proofs.Rows.{ended_of, answered, not_printed, played_to_end, either, of_usage, of_limit, of_complete}
+use Rattle.std.proofs.Common.{◌≡◌, ◌⊎◌, inl, inr, refl}
+use Rattle.rdpmt_program.proofs.Rows.{ended_of, answered, not_printed, front_printed, played_to_end, either, of_usage, of_limit, of_complete}
 use Rattle.rdpmt_program.proofs.top.rdpmt.Goals as goal
 
 pub returns-clause-answer : goal.returns-clause-answer
@@ -7,6 +7,9 @@ returns-clause-answer g c = answered (ended_of _ _ _ _ c.run-ended.result _ _ _ 
 
 pub returns-clause-sink : goal.returns-clause-sink
 returns-clause-sink g c = not_printed (ended_of _ _ _ _ c.run-ended.result _ _ _ _ _ c.run-ended.ensures.cause c.tell.ensures)
+
+pub returns-clause-front : goal.returns-clause-front
+returns-clause-front g c = front_printed (ended_of _ _ _ _ c.run-ended.result _ _ _ _ _ c.run-ended.ensures.cause c.tell.ensures)
 
 pub returns-clause-done : goal.returns-clause-done
 returns-clause-done g c = played_to_end (ended_of _ _ _ _ c.run-ended.result _ _ _ _ _ c.run-ended.ensures.cause c.tell.ensures)

@@ -1,15 +1,16 @@
-use Rattle.udp1_packets.proofs.Theorems.{one_value, one_fault, never_both}
+use Rattle.mt_base.proofs.Meanings.{one_value, one_fault, never_both}
 use Rattle.udp1_packets.proofs.WholeLemmas.{decided}
+use Rattle.udp1_packets.proofs.Theorems.{meaning}
 use Rattle.udp1_packets.proofs.laws.one_meaning.Goals as goal
 
 pub returns-clause-value : goal.returns-clause-value
-returns-clause-value c bytes p q s t = one_value bytes p q s t
+returns-clause-value c bytes p q s t = one_value meaning p q bytes s t
 
 pub returns-clause-fault : goal.returns-clause-fault
-returns-clause-fault c bytes r q f g = one_fault bytes r q f g
+returns-clause-fault c bytes r q f g = one_fault meaning r q bytes f g
 
 pub returns-clause-one_of_both : goal.returns-clause-one_of_both
 returns-clause-one_of_both c bytes good = decided bytes good
 
 pub returns-clause-never_both : goal.returns-clause-never_both
-returns-clause-never_both c bytes p r s f = never_both bytes p r s f
+returns-clause-never_both c bytes p r s f = never_both meaning p r bytes s f

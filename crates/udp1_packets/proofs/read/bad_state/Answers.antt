@@ -1,4 +1,4 @@
-use Rattle.std.proofs.Common.{sym, rules, arith}
+use Rattle.std.proofs.Common.{sym}
 use Rattle.udp1_packets.proofs.States.{no_bad_state, bad_state_at}
 use Rattle.udp1_packets.proofs.read.bad_state.Goals as goal
 

@@ -30,7 +30,7 @@ pub loop-preserved : goal.loop-preserved
 loop-preserved c = record {
   same = c.put_u8.ensures.same ∙ c.loop.invariant.same;
   written = step c.loop.counter (spot c.args.out.now) (spot c.loop.out) (spot c.put_u8.new.self) c.put_u8.result (sym c.is_err.ensures.value ∙ c.if-is_err.false)
-  c.loop.invariant.written c.put_u8.ensures.written;
+      c.loop.invariant.written c.put_u8.ensures.written;
 }
 
 pub returns-clause-same : goal.returns-clause-same

@@ -1,8 +1,8 @@
-use Rattle.std.proofs.Common.{◌<◌, length, take, fold, get_or, sym, ap, ◌∙◌, arith}
+use Rattle.std.proofs.Common.{◌<◌, length, fold, sym, ap, arith}
 use Rattle.std.proofs.lemmas.List.{take_all}
 use Rattle.std.proofs.lemmas.List.Sums.{fold_more}
 use Rattle.mt_world.specs.Acts.{with_byte}
-use Rattle.mt_world.proofs.Steps.{on_ok, at_past}
+use Rattle.mt_world.proofs.Steps.{at_past}
 use Rattle.mt_world.proofs.end.End.main_in.Goals as goal
 
 pub loop-byte-preserved : goal.loop-byte-preserved

@@ -1,4 +1,4 @@
-use Rattle.std.proofs.Common.{◌≡◌, ℕ, List, take, fold}
+use Rattle.std.proofs.Common.{ℕ, List, take, fold}
 use Rattle.mt_base.specs.declared.kinds.Role.{Role}
 use Rattle.mt_world.specs.Acts.{Past, with_byte}
 use Rattle.mt_world.specs.EndView.{StandsFor}

@@ -1,5 +1,4 @@
 use Rattle.std.proofs.Common.{ap}
-use Rattle.dvc_pdus.specs.Value.{Caps, CreateRequest, CreateResponse, Data}
 use Rattle.dvc_pdus.specs.Views.{pdu_of}
 use Rattle.mt_world.proofs.Steps.{on_ok, at_pdu}
 use Rattle.mt_world.proofs.end.End.read.Goals as goal
