@@ -1,4 +1,4 @@
 pub mod Joining
 pub mod Lines
 pub mod Runs
-pub mod OneAnswer
+pub mod OneOutput

@@ -13,7 +13,7 @@ mod packets;
 mod refusal;
 mod whole;
 
-pub use laws::one_answer;
+pub use laws::one_output;
 pub use refusal::ShowRefusal;
 pub use whole::show;
 

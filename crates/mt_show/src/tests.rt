@@ -40,7 +40,7 @@ fn shows_the_parts_of_packets(rt: HostRuntime) -> Result<(), Fail> {
     for (line, answer) in rows {
         assert_eq!(rt; show(rt.alloc(), line)?.bytes(), answer);
     }
-    one_answer();
+    one_output();
     Ok(())
 }
 

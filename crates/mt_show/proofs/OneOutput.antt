@@ -176,10 +176,13 @@ same_number lines m n a b =
 
 -- ---- whole texts
 
+-- lines that keep the grammar have answers
+pub kept_answer : OneMeaning → (text : List ℕ) → IsShort text → All Keeps (lines_of text) → (output : List ℕ) × ShownAs text (Ok output)
+kept_answer m text short keeps = let a = lines_answers m (lines_of text) keeps in (ended a.0, (short, a.0, a.1, refl))
+
 answered : OneMeaning → (text : List ℕ) → IsShort text → ToldLines (lines_of text) → (answer : Result (List ℕ) ShowRefusal) × ShownAs text answer
 answered m text short (inl keeps) =
-    let a = lines_answers m (lines_of text) keeps in
-    (Ok (ended a.0), (short, a.0, a.1, refl))
+    let a = kept_answer m text short keeps in (Ok a.0, a.1)
 answered m text short (inr f) = (Err (BadLine f.0), (short, f.1))
 
 -- each text has an answer

@@ -1,8 +1,0 @@
-use Rattle.mt_show.proofs.OneAnswer.{some_answer, one_answer}
-use Rattle.mt_show.proofs.laws.one_answer.Goals as goal
-
-pub returns-clause-some : goal.returns-clause-some
-returns-clause-some c = λ text bytes. some_answer (record { value = c.one_meaning.ensures.value; fault = c.one_meaning.ensures.fault; one_of_both = c.one_meaning.ensures.one_of_both; never_both = c.one_meaning.ensures.never_both }) text
-
-pub returns-clause-one : goal.returns-clause-one
-returns-clause-one c = one_answer (record { value = c.one_meaning.ensures.value; fault = c.one_meaning.ensures.fault; one_of_both = c.one_meaning.ensures.one_of_both; never_both = c.one_meaning.ensures.never_both })
