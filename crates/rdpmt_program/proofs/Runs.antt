@@ -1,5 +1,5 @@
 -- From what the parts of a command came to, to what the command came to.
-use Rattle.std.proofs.Common.{◌≡◌, ℕ, ◌<◌, ◌≤◌, inr, not, false, List, [], ◌∷◌, length, get_or, replicate, codes, map, string_bytes, Option, Some, None, Result, Ok, Err, refl, sym, ap, ◌∙◌, subst, append-nil, arith}
+use Rattle.std.proofs.Common.{◌≡◌, ◌≢◌, ℕ, ◌<◌, ◌≤◌, inl, inr, not, false, List, [], ◌∷◌, length, get_or, replicate, codes, map, string_bytes, Option, Some, None, Result, Ok, Err, refl, sym, ap, ◌∙◌, subst, append-nil, arith}
 use Rattle.std.specs.Global.{Global}
 use Rattle.std.specs.declared.string.String.{String}
 use Rattle.std.proofs.lemmas.List.Elements.{All-nil, All-replicate}
@@ -15,25 +15,47 @@ use Rattle.mt_world.specs.Acts.{Entry}
 use Rattle.mt_world.specs.Net.{Safe}
 use Rattle.mt_world.specs.Play.{start, play, Ending, Done}
 use Rattle.mt_world.specs.Report.{report}
-use Rattle.mt_outside.specs.Files.{Contents, Holds, Lacks}
+use Rattle.mt_outside.specs.Files.{Contents}
 use Rattle.mt_outside.specs.Told.{added}
 use Rattle.rdpmt_program.specs.declared.fault.Fault.{Fault}
 use Rattle.rdpmt_program.specs.declared.fault.Fault.TheVariants.{Usage, Refused, File, Limit, NoMemory}
-use Rattle.rdpmt_program.specs.Command.{words_of, IsOption, IsPlay}
-use Rattle.rdpmt_program.specs.Script.{PlaysTo, IsRefused, byte_limit}
-use Rattle.rdpmt_program.specs.Table.{IsScript, AskedFor}
-use Rattle.rdpmt_program.specs.Fate.{Gives, Runs, Refuses}
+use Rattle.mt_show.specs.declared.refusal.ShowRefusal.TheVariants.{BadLine}
+use Rattle.mt_show.specs.Answer.{ShownAs}
+use Rattle.rdpmt_program.specs.declared.words.Command.{Command}
+use Rattle.rdpmt_program.specs.declared.words.Command.TheVariants.{Play, Show}
+use Rattle.rdpmt_program.specs.Command.{words_of, IsOption, IsPlay, IsShow, AsksFor, IsCommand}
+use Rattle.rdpmt_program.specs.Script.{PlaysTo, IsRefused, refused_line}
+use Rattle.rdpmt_program.specs.Table.{IsTextOf, PassesLimit, script_report, show_answers, script_line, show_line, AskedFor}
+use Rattle.rdpmt_program.specs.Fate.{IsRead, IsReadOf, ReadsText, Gives, GivesShown, Runs, Refuses}
 
--- two words, of which the first is `play`
-pub two_words : (xs ws : List (String Global)) (a b : String Global) (script : List ℕ) → 2 ≤ length xs → length xs < 3 → a ≡ get_or xs 0 a → b ≡ get_or xs 1 b
-    → xs ≡ ws → string_bytes a ≡ codes "play" → script ≡ string_bytes b → ¬ IsOption script → IsPlay (words_of ws) script
-two_words [] ws a b script long short first second is play named plain = absurd (omega arith)
-two_words (x ∷ []) ws a b script long short first second is play named plain = absurd (omega arith)
-two_words (x ∷ y ∷ []) ws a b script long short first second is play named plain = record {
-  words_are = sym (ap (map string_bytes) is) ∙ ap (λ t. t ∷ string_bytes y ∷ []) (sym (ap string_bytes first) ∙ play) ∙ ap (λ t. codes "play" ∷ t ∷ []) (sym (ap string_bytes second) ∙ sym named);
-  no_option = plain;
-}
-two_words (x ∷ y ∷ z ∷ zs) ws a b script long short first second is play named plain = absurd (omega arith)
+-- two words
+pub two_words : (xs ws : List (String Global)) (a b : String Global) → 2 ≤ length xs → length xs < 3 → a ≡ get_or xs 0 a → b ≡ get_or xs 1 b
+    → xs ≡ ws → words_of ws ≡ string_bytes a ∷ string_bytes b ∷ []
+two_words [] ws a b long short first second is = absurd (omega arith)
+two_words (x ∷ []) ws a b long short first second is = absurd (omega arith)
+two_words (x ∷ y ∷ []) ws a b long short first second is =
+    sym (ap (map string_bytes) is) ∙ ap (λ t. t ∷ string_bytes y ∷ []) (sym (ap string_bytes first)) ∙ ap (λ t. string_bytes a ∷ t ∷ []) (sym (ap string_bytes second))
+two_words (x ∷ y ∷ z ∷ zs) ws a b long short first second is = absurd (omega arith)
+
+heads : (a b x y : List ℕ) → a ∷ b ∷ [] ≡ x ∷ y ∷ [] → (a ≡ x) × (b ≡ y)
+heads a b x y e = (cc, cc)
+
+no_command : (words : List (List ℕ)) (first name : List ℕ) → words ≡ first ∷ name ∷ [] → (first ≢ codes "play") × (first ≢ codes "show") → ¬ IsCommand words
+no_command words first name is other (k, inl play) = other.0 (heads first name (codes "play") k (sym is ∙ play.words_are)).0
+no_command words first name is other (k, inr show) = other.1 (heads first name (codes "show") k (sym is ∙ show.words_are)).0
+
+-- a second word that is an option is no name
+pub only_option : (words : List (List ℕ)) (first name : List ℕ) → words ≡ first ∷ name ∷ [] → IsOption name → ¬ IsCommand words
+only_option words first name is option (k, inl play) = play.no_option (subst IsOption (heads first name (codes "play") k (sym is ∙ play.words_are)).1 option)
+only_option words first name is option (k, inr show) = show.no_option (subst IsOption (heads first name (codes "show") k (sym is ∙ show.words_are)).1 option)
+
+-- two words of which the second is no option
+pub by_word : (words : List (List ℕ)) (first name : List ℕ) (command : Option Command) → words ≡ first ∷ name ∷ [] → ¬ IsOption name → IsReadOf first name command → IsRead words command
+by_word words first name None is plain h = no_command words first name is h
+by_word words first name (Some (Play script)) is plain h =
+    record { words_are = is ∙ ap (λ w. w ∷ name ∷ []) h.0 ∙ ap (λ w. codes "play" ∷ w ∷ []) (sym h.1); no_option = λ o. plain (subst IsOption h.1 o) }
+by_word words first name (Some (Show file)) is plain h =
+    record { words_are = is ∙ ap (λ w. w ∷ name ∷ []) h.0 ∙ ap (λ w. codes "show" ∷ w ∷ []) (sym h.1); no_option = λ o. plain (subst IsOption h.1 o) }
 
 -- a line that is refused
 pub gives_refusal : (text line : List ℕ) (fault : Fault) → Refuses fault line → IsRefused text line → Gives text (Err fault)
@@ -43,32 +65,54 @@ gives_refusal text line Usage is why = absurd is
 gives_refusal text line File is why = absurd is
 gives_refusal text line Limit is why = absurd is
 
-by_result : (words : List (List ℕ)) (told : Option Contents) (before after : ℕ) (text : List ℕ) (result : Result (List ℕ) Fault) → IsScript words told text → Gives text result → Runs words told before after result
-by_result words told before after text (Ok output) is plays = (text, is, plays)
-by_result words told before after text (Err Usage) is plays = absurd plays
-by_result words told before after text (Err (Refused line)) is plays = (text, is, plays)
-by_result words told before after text (Err File) is plays = absurd plays
-by_result words told before after text (Err Limit) is plays =
-    let P : List ℕ → Type 0 = λ t. line_limit < length (lines_of t) in
-    record { script = is.script; named = is.named; too_long = λ content holds. inr (subst P (is.content content holds) plays); there = is.there }
-by_result words told before after text (Err NoMemory) is plays = (is.script, is.named)
+-- a line of a show file that is refused
+pub shows_refusal : (text : List ℕ) (line : ℕ) (fault : Fault) → Refuses fault (refused_line line (codes "BadLine")) → ShownAs text (Err (BadLine line)) → GivesShown text (Err fault)
+shows_refusal text line (Refused told) is why = (line, why, is)
+shows_refusal text line NoMemory is why = tt
+shows_refusal text line Usage is why = absurd is
+shows_refusal text line File is why = absurd is
+shows_refusal text line Limit is why = absurd is
 
--- the content of the named script is played
-pub runs_script : (words : List (List ℕ)) (told : Option Contents) (before after : ℕ) (name text all : List ℕ) (result : Result (List ℕ) Fault) → IsPlay words name
-    → ((content : List ℕ) → Holds told name content → all ≡ content) → ¬ Lacks told name → length all ≤ byte_limit → text ≡ all → Gives text result → Runs words told before after result
-runs_script words told before after name text all result named known there short same plays =
-    let fits : length text ≤ byte_limit = omega (arith, ap length same, short) in
-    let is : IsScript words told text = record { script = name; named = named; content = λ content holds. same ∙ known content holds; there = there; fits = fits } in
-    by_result words told before after text result is plays
+-- a file has more lines than it may have
+many_lines : (words : List (List ℕ)) (told : Option Contents) (name text : List ℕ) → AsksFor words name → IsTextOf told name text → line_limit < length (lines_of text) → PassesLimit words told
+many_lines words told name text named is many =
+    let P : List ℕ → Type 0 = λ t. line_limit < length (lines_of t) in
+    record { name = name; named = named; too_long = λ content holds. inr (subst P (is.content content holds) many); there = is.there }
+
+-- the text of the named script was played
+pub by_play : (words : List (List ℕ)) (told : Option Contents) (before after : ℕ) (name text : List ℕ) (result : Result (List ℕ) Fault) → IsPlay words name → IsTextOf told name text → Gives text result → Runs words told before after result
+by_play words told before after name text (Ok output) named is plays = script_report text (record { name = name; named = named; is_text = is }) plays
+by_play words told before after name text (Err Usage) named is plays = absurd plays
+by_play words told before after name text (Err (Refused line)) named is plays = script_line text (record { name = name; named = named; is_text = is }) plays
+by_play words told before after name text (Err File) named is plays = absurd plays
+by_play words told before after name text (Err Limit) named is plays = many_lines words told name text (inl named) is plays
+by_play words told before after name text (Err NoMemory) named is plays = (name, inl named)
+
+-- the text of the named show file was shown
+pub by_show : (words : List (List ℕ)) (told : Option Contents) (before after : ℕ) (name text : List ℕ) (result : Result (List ℕ) Fault) → IsShow words name → IsTextOf told name text → GivesShown text result → Runs words told before after result
+by_show words told before after name text (Ok output) named is shows = show_answers text (record { name = name; named = named; is_text = is }) shows
+by_show words told before after name text (Err Usage) named is shows = absurd shows
+by_show words told before after name text (Err (Refused line)) named is shows = show_line text shows.0 (record { name = name; named = named; is_text = is }) shows.1 shows.2
+by_show words told before after name text (Err File) named is shows = absurd shows
+by_show words told before after name text (Err Limit) named is shows = many_lines words told name text (inr named) is shows
+by_show words told before after name text (Err NoMemory) named is shows = (name, inr named)
+
+-- the named file was not read
+pub by_fault : (words : List (List ℕ)) (told : Option Contents) (before after : ℕ) (name : List ℕ) (fault : Fault) → AsksFor words name → ReadsText told name before after (Err fault) → Runs words told before after (Err fault)
+by_fault words told before after name Usage named h = absurd h
+by_fault words told before after name (Refused line) named h = absurd h
+by_fault words told before after name File named h = ((name, named), h)
+by_fault words told before after name Limit named h = record { name = name; named = named; too_long = λ content holds. inl (h.too_long content holds); there = h.there }
+by_fault words told before after name NoMemory named h = (name, named)
 
 -- no name was told
 pub asked_none : (words : List (List ℕ)) (told : Option (List (List ℕ))) → AskedFor words told told
-asked_none words None = ([], All-nil (IsPlay words), refl)
-asked_none words (Some names) = ([], All-nil (IsPlay words), ap Some (sym (append-nil names)))
+asked_none words None = ([], All-nil (AsksFor words), refl)
+asked_none words (Some names) = ([], All-nil (AsksFor words), ap Some (sym (append-nil names)))
 
--- copies of the script's name were told
-pub asked_copies : (words : List (List ℕ)) (old new : Option (List (List ℕ))) (name : List ℕ) (k : ℕ) → IsPlay words name → new ≡ added old (replicate k name) → AskedFor words old new
-asked_copies words old new name k named is = (replicate k name, All-replicate (IsPlay words) k name named, is)
+-- copies of the file's name were told
+pub asked_copies : (words : List (List ℕ)) (old new : Option (List (List ℕ))) (name : List ℕ) (k : ℕ) → AsksFor words name → new ≡ added old (replicate k name) → AskedFor words old new
+asked_copies words old new name k named is = (replicate k name, All-replicate (AsksFor words) k name named, is)
 
 -- the test of two texts found them equal
 pub same_text : (a b : List ℕ) → not (bytes_eq a b) ≡ false → a ≡ b

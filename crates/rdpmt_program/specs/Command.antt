@@ -1,5 +1,5 @@
 -- The words of a call, and the command that they are.
-use Rattle.std.specs.Prelude.{◌≡◌, ℕ, List, [], ◌∷◌, ◌++◌, codes, map, string_bytes}
+use Rattle.std.specs.Prelude.{◌≡◌, ◌⊎◌, ℕ, List, [], ◌∷◌, ◌++◌, codes, map, string_bytes}
 use Rattle.std.specs.declared.string.String.{String}
 use Rattle.std.specs.Global.{Global}
 
@@ -17,9 +17,18 @@ pub record IsPlay (words : List (List ℕ)) (script : List ℕ) : Type 0 where
   pub words_are : words ≡ codes "play" ∷ script ∷ []
   pub no_option : ¬ IsOption script
 
+-- the words are `show` and the name of a show file, which is no option
+pub record IsShow (words : List (List ℕ)) (file : List ℕ) : Type 0 where
+  pub words_are : words ≡ codes "show" ∷ file ∷ []
+  pub no_option : ¬ IsOption file
+
+-- the words are those of a command that reads the file of this name
+abbrev pub AsksFor : List (List ℕ) → List ℕ → Type 0
+AsksFor words name = IsPlay words name ⊎ IsShow words name
+
 -- the words of a command
 abbrev pub IsCommand : List (List ℕ) → Type 0
-IsCommand words = (script : List ℕ) × IsPlay words script
+IsCommand words = (name : List ℕ) × AsksFor words name
 
 -- what is printed where the words are not those of a command
 abbrev pub usage_line : List ℕ

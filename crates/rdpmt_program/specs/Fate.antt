@@ -1,5 +1,5 @@
 -- What a fault that ends a command says of its words and of the store.
-use Rattle.std.specs.Prelude.{◌≡◌, ℕ, ◌<◌, ◌⊎◌, List, length, take, string_bytes, Option, Some, None, Result, Ok, Err}
+use Rattle.std.specs.Prelude.{◌≡◌, ◌≢◌, ℕ, ◌<◌, ◌⊎◌, List, length, take, codes, string_bytes, Option, Some, None, Result, Ok, Err}
 use Rattle.mt_base.specs.declared.kinds.Role.{Role}
 use Rattle.mt_base.specs.Trace.{Trace}
 use Rattle.mt_script.specs.Lines.{lines_of}
@@ -9,22 +9,45 @@ use Rattle.mt_world.specs.Acts.{Entry}
 use Rattle.mt_world.specs.Play.{Ending, Done, RefusedAt}
 use Rattle.mt_world.specs.WorldView.{Stands}
 use Rattle.mt_outside.specs.Faults.{Rose}
-use Rattle.mt_outside.specs.Files.{Contents}
+use Rattle.mt_outside.specs.Files.{Contents, Holds, Lacks}
 use Rattle.mt_outside.specs.Told.{added}
 use Rattle.rdpmt_program.specs.declared.fault.Fault.{Fault}
 use Rattle.rdpmt_program.specs.declared.fault.Fault.TheVariants.{Usage, Refused, File, Limit, NoMemory}
 use Rattle.rdpmt_program.specs.declared.playing.Stop.{Stop}
 use Rattle.rdpmt_program.specs.declared.playing.Stop.TheVariants as stop
 use Rattle.rdpmt_program.specs.declared.words.Command.{Command}
-use Rattle.rdpmt_program.specs.declared.words.Command.TheVariants.{Play}
-use Rattle.rdpmt_program.specs.Command.{IsPlay, IsCommand, usage_line}
-use Rattle.rdpmt_program.specs.Script.{PlaysTo, IsRefused}
-use Rattle.rdpmt_program.specs.Table.{IsScript, PassesLimit, file_fault_line, no_memory_line, limit_line}
+use Rattle.rdpmt_program.specs.declared.words.Command.TheVariants.{Play, Show}
+use Rattle.mt_show.specs.declared.refusal.ShowRefusal.TheVariants.{BadLine}
+use Rattle.mt_show.specs.Answer.{ShownAs}
+use Rattle.rdpmt_program.specs.Command.{IsPlay, IsShow, IsCommand, usage_line}
+use Rattle.rdpmt_program.specs.Script.{PlaysTo, IsRefused, byte_limit, refused_line}
+use Rattle.rdpmt_program.specs.Table.{IsTextOf, PassesLimit, Reports, RefusesLine, file_fault_line, no_memory_line, limit_line}
 
 -- what the words were read as
 abbrev pub IsRead : List (List ℕ) → Option Command → Type 0
 IsRead words None = ¬ IsCommand words
 IsRead words (Some (Play script)) = IsPlay words script.now
+IsRead words (Some (Show file)) = IsShow words file.now
+
+-- what a first word and the name of a file were read as
+abbrev pub IsReadOf : (first name : List ℕ) → Option Command → Type 0
+IsReadOf first name None = (first ≢ codes "play") × (first ≢ codes "show")
+IsReadOf first name (Some (Play script)) = (first ≡ codes "play") × (script.now ≡ name)
+IsReadOf first name (Some (Show file)) = (first ≡ codes "show") × (file.now ≡ name)
+
+-- a file that is longer than one may be was read
+pub record IsLong (told : Option Contents) (name : List ℕ) : Type 0 where
+  pub too_long : (content : List ℕ) → Holds told name content → byte_limit < length content
+  pub there : ¬ Lacks told name
+
+-- what the reading of a file came to
+abbrev pub ReadsText : Option Contents → List ℕ → (before after : ℕ) → Result (List ℕ) Fault → Type 0
+ReadsText told name before after (Ok text) = IsTextOf told name text
+ReadsText told name before after (Err Usage) = ⊥
+ReadsText told name before after (Err (Refused line)) = ⊥
+ReadsText told name before after (Err File) = Rose before after
+ReadsText told name before after (Err Limit) = IsLong told name
+ReadsText told name before after (Err NoMemory) = Unit {0}
 
 -- the fault that a line is refused with this printed line, or want of memory
 abbrev pub Refuses : Fault → List ℕ → Type 0
@@ -49,11 +72,21 @@ Gives text (Err File) = ⊥
 Gives text (Err Limit) = line_limit < length (lines_of text)
 Gives text (Err NoMemory) = Unit {0}
 
+-- what the showing of a text came to
+abbrev pub GivesShown : List ℕ → Result (List ℕ) Fault → Type 0
+GivesShown text (Ok output) = ShownAs text (Ok output)
+GivesShown text (Err Usage) = ⊥
+GivesShown text (Err (Refused printed)) =
+    (line : ℕ) × ShownAs text (Err (BadLine line)) × (string_bytes printed ≡ refused_line line (codes "BadLine"))
+GivesShown text (Err File) = ⊥
+GivesShown text (Err Limit) = line_limit < length (lines_of text)
+GivesShown text (Err NoMemory) = Unit {0}
+
 -- what a command came to
 abbrev pub Runs : List (List ℕ) → Option Contents → (before after : ℕ) → Result (List ℕ) Fault → Type 0
-Runs words told before after (Ok output) = (text : List ℕ) × IsScript words told text × PlaysTo text output
+Runs words told before after (Ok output) = Reports words told output
 Runs words told before after (Err Usage) = ¬ IsCommand words
-Runs words told before after (Err (Refused line)) = (text : List ℕ) × IsScript words told text × IsRefused text (string_bytes line)
+Runs words told before after (Err (Refused line)) = RefusesLine words told (string_bytes line)
 Runs words told before after (Err File) = IsCommand words × Rose before after
 Runs words told before after (Err Limit) = PassesLimit words told
 Runs words told before after (Err NoMemory) = IsCommand words

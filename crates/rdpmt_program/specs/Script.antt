@@ -59,10 +59,10 @@ pub data IsRefused (text output : List ℕ) : Type 0 where
   step : (lines : List Line) (list : Trace (Role × Entry)) (line : ℕ) (cause : StepRefusal) → ReadsAs text (Ok lines)
       → play start lines ≡ (list, RefusedAt line cause) → output ≡ refused_line line (step_reason cause) → IsRefused text output
 
--- the most bytes that a script has
+-- the most bytes that a script or a show file has
 abbrev pub byte_limit : ℕ
 byte_limit = 268435456
 
--- the text is longer than a script may be
+-- the text is longer than a script or a show file may be
 abbrev pub IsTooLong : List ℕ → Type 0
 IsTooLong text = (byte_limit < length text) ⊎ (line_limit < length (lines_of text))

@@ -1,15 +1,17 @@
 //! The program `rdpmt`: it plays a script of two ends of a session, and prints what each end sent
-//! and what was delivered of it.
+//! and what was delivered of it; and it shows the datagrams of a show file.
 //!
 //! [`rdpmt`](top::rdpmt) is the whole program over a store of files and a sink; `main` gives it the
 //! words of the call and the machine's devices. Below it stand `mt_world`, which plays, `mt_script`,
-//! which reads scripts, and `mt_outside`, which has the devices. The contract of `rdpmt` names the
+//! which reads scripts, `mt_show`, which shows, and `mt_outside`, which has the devices. The contract of `rdpmt` names the
 //! only cause of each status, and what is printed with it.
 #![tactic(auto)]
 
 mod fault;
 mod playing;
 mod print;
+mod reading;
+mod showing;
 mod top;
 mod words;
 

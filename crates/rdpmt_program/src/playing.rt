@@ -4,17 +4,15 @@ ghost use Rattle.std.specs.Prelude.{◌≡◌, ℕ, List, replicate};
 ghost use Rattle.mt_world.specs.Play.{start, play};
 ghost use Rattle.mt_outside.specs.Told.{added};
 ghost use Rattle.rdpmt_program.specs.Command.{IsPlay};
-ghost use Rattle.rdpmt_program.specs.Script.{refused_line, step_reason};
-ghost use Rattle.rdpmt_program.specs.Fate.{Plays, Gives, Runs, Refuses};
+ghost use Rattle.rdpmt_program.specs.Script.{step_reason};
+ghost use Rattle.rdpmt_program.specs.Fate.{Plays, Gives, Runs};
 
 use crate::fault::Fault;
-use mt_outside::{FileStore, ReadFault, read_file};
+use crate::reading::{read_text, refused};
+use mt_outside::FileStore;
 use mt_script::{Line, ScriptRefusal, Text, read_script};
 use mt_world::{OpenRefusal, Refused, SendRefusal, StepRefusal, World, plays_safely};
 use std::alloc::Global;
-
-/// The most bytes that a script has.
-const SCRIPT_BYTES: u64 = 268_435_456;
 
 /// Why the lines of a script are not played to their end.
 #[derive(Clone, Copy)]
@@ -50,11 +48,9 @@ pub(crate) fn play_script<F: FileStore>(
     ensures names { (k : ℕ) × (F.named files.new ≡ added (F.named files.old) (replicate k name.now)) }
     ensures same { F.told files.new ≡ F.told files.old }
 {
-    match read_file(alloc, files, name, SCRIPT_BYTES) {
-        Ok(text) => play_text(alloc, &text),
-        Err(ReadFault::Failed) => Err(Fault::File),
-        Err(ReadFault::TooLong) => Err(Fault::Limit),
-        Err(ReadFault::NoMemory) => Err(Fault::NoMemory),
+    match read_text(alloc, files, name) {
+        Ok(text) => play_text(alloc, text.bytes()),
+        Err(fault) => Err(fault),
     }
 }
 
@@ -95,16 +91,6 @@ fn play_lines(alloc: Global, lines: &[Line]) -> Result<World, Stop>
         }
     }
     Ok(world)
-}
-
-/// The fault that a line is refused for this reason.
-fn refused(alloc: Global, line: u64, reason: &str) -> Fault
-    ensures { Refuses result (refused_line line reason.now) }
-{
-    match format!(in alloc; "refused line {line} {reason}\n") {
-        Ok(text) => Fault::Refused(text),
-        Err(_) => Fault::NoMemory,
-    }
 }
 
 /// The innermost name of what refused a step.

@@ -118,14 +118,17 @@ fn refuses_long_messages_and_scripts(rt: HostRuntime) -> Result<(), Fail> {
 
 #[test]
 fn knows_its_words(rt: HostRuntime) -> Result<(), Fail> {
-    let rows: [&[&str]; 9] = [
+    let rows: [&[&str]; 12] = [
         &[],
         &["play"],
         &["--help"],
         &["play", "-x"],
         &["play", "-"],
         &["play", "s", "t"],
-        &["show", "s"],
+        &["show"],
+        &["show", "-"],
+        &["show", "-v"],
+        &["show", "s", "s"],
         &["Play", "s"],
         &["s", "play"],
     ];
@@ -134,6 +137,79 @@ fn knows_its_words(rt: HostRuntime) -> Result<(), Fail> {
         assert_eq!(rt; out.written(), USAGE.as_bytes());
         assert_eq!(rt; status, 1);
     }
+    Ok(())
+}
+
+#[test]
+fn shows_datagrams(rt: HostRuntime) -> Result<(), Fail> {
+    let rows: [(&[u8], &str); 7] = [
+        (b"", ""),
+        (
+            b"v1 000000020040000400010200",
+            "v1 ack=2 window=64 marks=0000 vector=r2 bare rest=0\n",
+        ),
+        (
+            b"v1 000000010040000400014300\nv1 000000010040000400010000\n",
+            "v1 refused BadState at 10\nv1 ack=1 window=64 marks=0000 vector=r0 bare rest=0\n",
+        ),
+        (
+            b"v1 00000001004000040801\n",
+            "v1 refused VectorTooLong at 8\n",
+        ),
+        (
+            b"v1 0000000000400004ffff\n",
+            "v1 refused VectorTooLong at 8\n",
+        ),
+        (
+            b"v1 ffffffff004010010000000104d004d000010101abababababababababababababababababababababababababababababab\n",
+            "v1 refused Short at 20\n",
+        ),
+        (
+            b"v1 000000010040001800000003000000020504ffff0aff",
+            "v1 ack=1 window=64 marks=0000 fec coded=3 start=2 range=5 index=4 bytes=0aff\n",
+        ),
+    ];
+    for (text, output) in rows {
+        let (status, out) = call(rt.alloc(), &["show", "s"], text, &[], &[])?;
+        assert_eq!(rt; out.written(), output.as_bytes());
+        assert_eq!(rt; status, 0);
+    }
+    Ok(())
+}
+
+#[test]
+fn shows_an_opening_of_a_whole_datagram(rt: HostRuntime) -> Result<(), Fail> {
+    let opened = b"v1 ffffffff004000010000000104d004d0";
+    let mut text = Vec::from_slice(rt.alloc(), opened)?;
+    for _ in 0..1216 {
+        text.extend_from_slice(b"00")?;
+    }
+    let output =
+        "v1 ack=4294967295 window=64 marks=0000 syn initial=1 up=1232 down=1232 padding=1216\n";
+    let (status, out) = call(rt.alloc(), &["show", "s"], text.as_slice(), &[], &[])?;
+    assert_eq!(rt; out.written(), output.as_bytes());
+    assert_eq!(rt; status, 0);
+    Ok(())
+}
+
+#[test]
+fn refuses_lines_of_show_files(rt: HostRuntime) -> Result<(), Fail> {
+    let rows: [(&[u8], u8, &str); 5] = [
+        (b"\n", 2, "refused line 1 BadLine\n"),
+        (b"v2 00\n", 2, "refused line 1 BadLine\n"),
+        (b"v1 0A\n", 2, "refused line 1 BadLine\n"),
+        (b"v1 -\nv1 00\n# no\nv1\n", 2, "refused line 3 BadLine\n"),
+        (b"v1 -\n", 0, "v1 refused Short at 0\n"),
+    ];
+    for (text, wanted, output) in rows {
+        let (status, out) = call(rt.alloc(), &["show", "s"], text, &[], &[])?;
+        assert_eq!(rt; out.written(), output.as_bytes());
+        assert_eq!(rt; status, wanted);
+    }
+    let lines = vec![in rt.alloc(); b'\n'; 4_000_001]?;
+    let (status, out) = call(rt.alloc(), &["show", "s"], lines.as_slice(), &[], &[])?;
+    assert_eq!(rt; out.written(), b"limit\n".as_slice());
+    assert_eq!(rt; status, 11);
     Ok(())
 }
 
@@ -148,9 +224,16 @@ fn answers_faults_of_its_devices(rt: HostRuntime) -> Result<(), Fail> {
         ("missing", &[], &[0], 4, ""),
     ];
     for (name, file_fails, sink_fails, wanted, output) in rows {
-        let (status, out) = call(rt.alloc(), &["play", name], b"#\n", file_fails, sink_fails)?;
-        assert_eq!(rt; out.written(), output.as_bytes());
-        assert_eq!(rt; status, wanted);
+        for command in ["play", "show"] {
+            let text = if command == "play" {
+                b"#\n".as_slice()
+            } else {
+                b"v1 -"
+            };
+            let (status, out) = call(rt.alloc(), &[command, name], text, file_fails, sink_fails)?;
+            assert_eq!(rt; out.written(), output.as_bytes());
+            assert_eq!(rt; status, wanted);
+        }
     }
     Ok(())
 }

@@ -2,17 +2,19 @@
 
 ghost use Rattle.std.specs.Prelude.{◌≡◌, ◌≢◌, ◌⊎◌, ℕ, List};
 ghost use Rattle.mt_outside.specs.Faults.{Rose};
-ghost use Rattle.rdpmt_program.specs.Command.{words_of, IsCommand};
+ghost use Rattle.rdpmt_program.specs.Command.{words_of, IsPlay, IsShow, AsksFor, IsCommand};
 ghost use Rattle.rdpmt_program.specs.Script.{IsTooLong};
-ghost use Rattle.rdpmt_program.specs.Table.{Row, Reports, WritesAll, WritesFront, AskedFor, Names, IsPlayable};
+ghost use Rattle.rdpmt_program.specs.Table.{Row, Reports, WritesAll, WritesFront, AskedFor, Names, IsPlayable, IsShowable};
 ghost use Rattle.rdpmt_program.specs.Fate.{Runs};
 
 use crate::fault::Fault;
 use crate::playing::play_script;
 use crate::print::tell;
+use crate::showing::show_file;
 use crate::words::{Command, read_words};
 use mt_outside::{FileStore, Sink};
 use mt_script::{Text, one_answer};
+use mt_show::one_output;
 use std::alloc::Global;
 
 /// Runs the command that the words are, prints its output or why there is none, and answers the
@@ -20,7 +22,7 @@ use std::alloc::Global;
 ///
 /// Each status but 4 comes by its row of the table, and all of the row's output is printed; 4 is
 /// for a sink that fails, which then took a front of some row's output. No file changes, and the
-/// store is asked for the script alone. Want of memory, 9, may come in place of any other answer
+/// store is asked for the named file alone. Want of memory, 9, may come in place of any other answer
 /// to the words of a command.
 pub fn rdpmt<F: FileStore, K: Sink>(
     alloc: Global,
@@ -35,17 +37,20 @@ pub fn rdpmt<F: FileStore, K: Sink>(
     ensures sink { result ≡ 4 → Rose (K.faults out.old) (K.faults out.new) }
     ensures front { result ≡ 4 → (status : ℕ) × WritesFront (Row (words_of words.now.items) (F.told files.old) (F.faults files.old) (F.faults files.new) status) (K.written out.old) (K.written out.new) }
 
-    // Where the words are no command's, and where a script passes a limit, nothing else comes.
+    // Where the words are no command's, and where a file passes a limit, nothing else comes.
     ensures usage { ¬ IsCommand (words_of words.now.items) → (result ≡ 1) ⊎ (result ≡ 4) }
-    ensures limit { (text : List ℕ) → Names (words_of words.now.items) (F.told files.old) text → IsTooLong text → (result ≡ 11) ⊎ (result ≡ 3) ⊎ (result ≡ 4) ⊎ (result ≡ 9) }
+    ensures limit { (text : List ℕ) → Names (AsksFor (words_of words.now.items)) (F.told files.old) text → IsTooLong text → (result ≡ 11) ⊎ (result ≡ 3) ⊎ (result ≡ 4) ⊎ (result ≡ 9) }
 
     // A script that is played to its end gets its report, where neither device fails.
-    ensures complete { (text : List ℕ) → Names (words_of words.now.items) (F.told files.old) text → IsPlayable text → ¬ Rose (F.faults files.old) (F.faults files.new) → ¬ Rose (K.faults out.old) (K.faults out.new) → (result ≡ 0) ⊎ (result ≡ 9) }
+    ensures complete { (text : List ℕ) → Names (IsPlay (words_of words.now.items)) (F.told files.old) text → IsPlayable text → ¬ Rose (F.faults files.old) (F.faults files.new) → ¬ Rose (K.faults out.old) (K.faults out.new) → (result ≡ 0) ⊎ (result ≡ 9) }
+    // So does a show file whose lines keep the grammar get its answers.
+    ensures complete_show { (text : List ℕ) → Names (IsShow (words_of words.now.items)) (F.told files.old) text → IsShowable text → ¬ Rose (F.faults files.old) (F.faults files.new) → ¬ Rose (K.faults out.old) (K.faults out.new) → (result ≡ 0) ⊎ (result ≡ 9) }
 
     ensures names { AskedFor (words_of words.now.items) (F.named files.old) (F.named files.new) }
     ensures same { F.told files.new ≡ F.told files.old }
 {
     one_answer();
+    one_output();
     let ended = run(alloc, words, files);
     tell(out, ended)
 }
@@ -58,6 +63,7 @@ fn run<F: FileStore>(alloc: Global, words: &Vec<String>, files: &mut F) -> Resul
 {
     match read_words(words) {
         Some(Command::Play(script)) => play_script(alloc, files, script),
+        Some(Command::Show(file)) => show_file(alloc, files, file),
         None => Err(Fault::Usage),
     }
 }

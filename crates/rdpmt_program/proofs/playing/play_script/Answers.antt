@@ -1,8 +1,12 @@
-use Rattle.std.proofs.Common.{◌≤◌, length, ap, arith}
-use Rattle.rdpmt_program.proofs.Runs.{runs_script}
+use Rattle.std.proofs.Common.{inl, subst}
+use Rattle.rdpmt_program.specs.Fate.{Gives}
+use Rattle.rdpmt_program.proofs.Runs.{by_play, by_fault}
 use Rattle.rdpmt_program.proofs.playing.play_script.Goals as goal
 
 pub returns-in-Ok-clause-cause : goal.returns-in-Ok-clause-cause
 returns-in-Ok-clause-cause g c = λ words named.
-    let short : length c.in-Ok.text.items ≤ 268435456 = omega (arith, c.in-Ok.ensures.within, c.deref.ensures.len, ap length c.deref.ensures.value) in
-    runs_script words _ _ _ c.args.name.now c.deref.result.now c.in-Ok.text.items c.play_text.result named c.in-Ok.ensures.content (λ lacks. let e = c.in-Ok.ensures.missing lacks in cc) short c.deref.ensures.value c.play_text.ensures
+    by_play words _ _ _ c.args.name.now c.in-Ok.text c.play_text.result named c.in-Ok.ensures.cause (subst (λ t. Gives t c.play_text.result) c.bytes.ensures c.play_text.ensures)
+
+pub returns-in-Err-clause-cause : goal.returns-in-Err-clause-cause
+returns-in-Err-clause-cause g c = λ words named.
+    by_fault words _ _ _ c.args.name.now c.in-Err.fault (inl named) c.in-Err.ensures.cause

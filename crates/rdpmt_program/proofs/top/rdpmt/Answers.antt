@@ -1,5 +1,5 @@
 use Rattle.std.proofs.Common.{◌≡◌, ◌⊎◌, inl, inr, refl}
-use Rattle.rdpmt_program.proofs.Rows.{ended_of, answered, not_printed, front_printed, played_to_end, either, of_usage, of_limit, of_complete}
+use Rattle.rdpmt_program.proofs.Rows.{ended_of, answered, not_printed, front_printed, played_to_end, either, of_usage, of_limit, of_complete, of_complete_show}
 use Rattle.rdpmt_program.proofs.top.rdpmt.Goals as goal
 
 pub returns-clause-answer : goal.returns-clause-answer
@@ -28,3 +28,8 @@ pub returns-clause-complete : goal.returns-clause-complete
 returns-clause-complete g c = λ text names playable calm calm_sink.
     either (ended_of _ _ _ _ c.run-ended.result _ _ _ _ _ c.run-ended.ensures.cause c.tell.ensures)
     (λ s. (s ≡ 0) ⊎ (s ≡ 9)) (of_complete c.one_answer.ensures.one text names playable calm) (λ rose. absurd (calm_sink rose))
+
+pub returns-clause-complete_show : goal.returns-clause-complete_show
+returns-clause-complete_show g c = λ text names showable calm calm_sink.
+    either (ended_of _ _ _ _ c.run-ended.result _ _ _ _ _ c.run-ended.ensures.cause c.tell.ensures)
+    (λ s. (s ≡ 0) ⊎ (s ≡ 9)) (of_complete_show (record { one = c.one_output.ensures.one; kept = c.one_output.ensures.kept }) text names showable calm) (λ rose. absurd (calm_sink rose))

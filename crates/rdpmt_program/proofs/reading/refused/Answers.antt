@@ -1,5 +1,5 @@
 use Rattle.std.proofs.Common.{◌∙◌, append_assoc}
-use Rattle.rdpmt_program.proofs.playing.refused.Goals as goal
+use Rattle.rdpmt_program.proofs.reading.refused.Goals as goal
 
 pub returns-in-Ok : goal.returns-in-Ok
 returns-in-Ok c = c.in-Ok.ensures.ok ∙ simp append_assoc

@@ -1,0 +1,213 @@
+-- Each text has exactly one answer.
+use Rattle.std.proofs.Common.{◌≡◌, ◌≢◌, ℕ, suc, ◌+◌, ◌<◌, ◌^◌, ◌⊎◌, inl, inr, List, [], ◌∷◌, ◌++◌, length, take, drop, codes, Bool, true, false, Result, Ok, Err, refl, sym, ap, ◌∙◌, subst, arith}
+use Rattle.std.specs.Bool.{Decides}
+use Rattle.std.specs.List.{All, join_with_byte}
+use Rattle.std.specs.Str.{bytes_eq}
+use Rattle.std.proofs.lemmas.Bool.{cases_lt}
+use Rattle.std.proofs.lemmas.List.{take-append-drop}
+use Rattle.std.proofs.lemmas.List.Elements.{All-nil, All-cons, All-head, All-tail}
+use Rattle.std.proofs.lemmas.Slice.Eq.{bytes_eq-Decides}
+use Rattle.carrier.specs.declared.first_layout.Refusal1.{Refusal1}
+use Rattle.mt_script.specs.Lines.{lines_of, ended}
+use Rattle.mt_script.specs.Spelling.{IsBytes, hex_text}
+use Rattle.mt_script.specs.Meaning.{IsShort, line_limit}
+use Rattle.mt_script.proofs.Spellings.{Told, tell_bytes, hex_text-injective}
+use Rattle.udp1_packets.specs.Value.{Packet}
+use Rattle.udp1_packets.specs.Layout.{Spells}
+use Rattle.udp1_packets.specs.Faults.{Refused}
+use Rattle.mt_show.specs.declared.asked.Asked.{Asked}
+use Rattle.mt_show.specs.declared.asked.Asked.TheVariants.{FirstLayout}
+use Rattle.mt_show.specs.declared.refusal.ShowRefusal.{ShowRefusal}
+use Rattle.mt_show.specs.declared.refusal.ShowRefusal.TheVariants.{BadLine, TooManyLines, NoMemory}
+use Rattle.mt_show.specs.Grammar.{first_word, spelled, IsAsked, Keeps, Breaks}
+use Rattle.mt_show.specs.Words.{packet_words, refusal_words}
+use Rattle.mt_show.specs.Answer.{ShownFirst, packet, refused, Shown, Answers, AreAnswered, FirstBroken, ShownAs}
+use Rattle.mt_show.proofs.Lines.{kept_before}
+
+-- ---- a line keeps the grammar or breaks it
+
+told : {P : Type 0} (b : Bool) → Decides b P → P ⊎ (P → ⊥)
+told true h = inl (h.0 refl)
+told false h = inr (λ p. let holds = h.1 p in cc)
+
+-- the word behind `v1 `
+behind_first : (line bytes : List ℕ) → line ≡ spelled (FirstLayout bytes) → drop 3 line ≡ hex_text bytes
+behind_first line bytes e = ap (drop 3) e
+
+starts_first : (line bytes : List ℕ) → line ≡ spelled (FirstLayout bytes) → take 3 line ≡ codes "v1 "
+starts_first line bytes e = ap (take 3) e
+
+other_start : (line : List ℕ) → take 3 line ≢ codes "v1 " → Breaks line
+other_start line other (FirstLayout bytes) is e = other (starts_first line bytes e)
+
+no_hex : (line : List ℕ) → ((bytes : List ℕ) → IsBytes bytes → drop 3 line ≢ hex_text bytes) → Breaks line
+no_hex line none (FirstLayout bytes) is e = none bytes is (behind_first line bytes e)
+
+by_word : (line : List ℕ) → take 3 line ≡ codes "v1 " → Told {A = List ℕ} IsBytes hex_text (drop 3 line) → Keeps line ⊎ Breaks line
+by_word line start (inl word) =
+    inl (FirstLayout word.0, word.1, sym (take-append-drop 3 line) ∙ ap (λ t. t ++ drop 3 line) start ∙ ap (λ t. codes "v1 " ++ t) word.2)
+by_word line start (inr none) = inr (no_hex line none)
+
+tell_line : (line : List ℕ) → Keeps line ⊎ Breaks line
+tell_line line =
+    elim (told (bytes_eq (take 3 line) (codes "v1 ")) (bytes_eq-Decides (take 3 line) (codes "v1 "))) [
+      | inl start ↦ by_word line start (tell_bytes (drop 3 line))
+      | inr other ↦ inr (other_start line other)
+    ]
+
+-- all lines keep it, or there is a first that breaks it
+abbrev ToldLines : List (List ℕ) → Type 0
+ToldLines lines = All Keeps lines ⊎ ((number : ℕ) × FirstBroken lines number)
+
+one_more : (line : List ℕ) (lines : List (List ℕ)) → Keeps line → ToldLines lines → ToldLines (line ∷ lines)
+one_more line lines keeps (inl all) = inl (All-cons Keeps line lines keeps all)
+one_more line lines keeps (inr f) =
+    let place = f.1.number_is in
+    inr (
+      f.0 + 1,
+      record {
+        before = line ∷ f.1.before;
+        line = f.1.line;
+        after = f.1.after;
+        parts = ap (λ ls. line ∷ ls) f.1.parts;
+        kept = All-cons Keeps line f.1.before keeps f.1.kept;
+        broken = f.1.broken;
+        number_is = omega arith;
+      },
+    )
+
+first_line : (line : List ℕ) (lines : List (List ℕ)) → Keeps line ⊎ Breaks line → ToldLines lines → ToldLines (line ∷ lines)
+first_line line lines (inl keeps) rest = one_more line lines keeps rest
+first_line line lines (inr breaks) rest =
+    inr (1, record { before = []; line = line; after = lines; parts = refl; kept = All-nil Keeps; broken = breaks; number_is = refl })
+
+tell : (lines : List (List ℕ)) → ToldLines lines
+tell [] = inl (All-nil Keeps)
+tell (line ∷ lines) = first_line line lines (tell_line line) (tell lines)
+
+-- ---- lines that keep the grammar have one list of answers
+
+-- what the layout says of bytes: one packet or one first fault, and not both
+pub record OneMeaning : Type 0 where
+  pub value : (bytes : List ℕ) (p q : Packet) → Spells bytes p → Spells bytes q → p ≡ q
+  pub fault : (bytes : List ℕ) (r q : Refusal1) → Refused bytes r → Refused bytes q → r ≡ q
+  pub one_of_both : (bytes : List ℕ) → All (λ b. b < 2 ^ 8) bytes → ((p : Packet) × Spells bytes p) ⊎ ((r : Refusal1) × Refused bytes r)
+  pub never_both : (bytes : List ℕ) (p : Packet) (r : Refusal1) → Spells bytes p → Refused bytes r → ⊥
+
+by_meaning : (bytes : List ℕ) → ((p : Packet) × Spells bytes p) ⊎ ((r : Refusal1) × Refused bytes r) → (words : List (List ℕ)) × ShownFirst bytes words
+by_meaning bytes (inl p) = (packet_words p.0, packet p.0 p.1 refl)
+by_meaning bytes (inr r) = (refusal_words r.0, refused r.0 r.1 refl)
+
+some_words : OneMeaning → (asked : Asked) → IsAsked asked → (words : List (List ℕ)) × Shown asked words
+some_words m (FirstLayout bytes) is = by_meaning bytes (m.one_of_both bytes is)
+
+line_answer : OneMeaning → (line : List ℕ) → Keeps line → (answer : List ℕ) × Answers line answer
+line_answer m line keeps =
+    let shown = some_words m keeps.0 keeps.1 in
+    (join_with_byte 32 (first_word keeps.0 ∷ shown.0), record { asked = keeps.0; words = shown.0; is_asked = keeps.1; line_is = keeps.2; shown = shown.1; answer_is = refl })
+
+lines_answers : OneMeaning → (lines : List (List ℕ)) → All Keeps lines → (answers : List (List ℕ)) × AreAnswered lines answers
+lines_answers m [] h = ([], tt)
+lines_answers m (line ∷ lines) h =
+    let first = line_answer m line (All-head Keeps line lines h) in
+    let rest = lines_answers m lines (All-tail Keeps line lines h) in
+    (first.0 ∷ rest.0, (first.1, rest.1))
+
+same_first : OneMeaning → (bytes : List ℕ) (xs ys : List (List ℕ)) → ShownFirst bytes xs → ShownFirst bytes ys → xs ≡ ys
+same_first m bytes xs ys (packet p s e) (packet q t f) = e ∙ ap packet_words (m.value bytes p q s t) ∙ sym f
+same_first m bytes xs ys (packet p s e) (refused r t f) = absurd (m.never_both bytes p r s t)
+same_first m bytes xs ys (refused r s e) (packet q t f) = absurd (m.never_both bytes q r t s)
+same_first m bytes xs ys (refused r s e) (refused q t f) = e ∙ ap refusal_words (m.fault bytes r q s t) ∙ sym f
+
+same_shown : OneMeaning → (asked : Asked) (xs ys : List (List ℕ)) → Shown asked xs → Shown asked ys → xs ≡ ys
+same_shown m (FirstLayout bytes) xs ys s t = same_first m bytes xs ys s t
+
+same_asked : (line : List ℕ) (a b : Asked) → IsAsked a → IsAsked b → line ≡ spelled a → line ≡ spelled b → a ≡ b
+same_asked line (FirstLayout xs) (FirstLayout ys) ha hb e f =
+    ap FirstLayout (hex_text-injective xs ys ha hb (sym (behind_first line xs e) ∙ behind_first line ys f))
+
+same_line : OneMeaning → (line x y : List ℕ) → Answers line x → Answers line y → x ≡ y
+same_line m line x y a b =
+    let asked = same_asked line a.asked b.asked a.is_asked b.is_asked a.line_is b.line_is in
+    let words = same_shown m b.asked a.words b.words (subst (λ k. Shown k a.words) asked a.shown) b.shown in
+    a.answer_is ∙ ap (λ k. join_with_byte 32 (first_word k ∷ a.words)) asked ∙ ap (λ w. join_with_byte 32 (first_word b.asked ∷ w)) words ∙ sym b.answer_is
+
+same_lines : OneMeaning → (lines xs ys : List (List ℕ)) → AreAnswered lines xs → AreAnswered lines ys → xs ≡ ys
+same_lines m [] [] [] a b = refl
+same_lines m [] [] (y ∷ ys) a b = absurd b
+same_lines m [] (x ∷ xs) ys a b = absurd a
+same_lines m (line ∷ lines) [] ys a b = absurd a
+same_lines m (line ∷ lines) (x ∷ xs) [] a b = absurd b
+same_lines m (line ∷ lines) (x ∷ xs) (y ∷ ys) a b =
+    ap (λ t. t ∷ xs) (same_line m line x y a.0 b.0) ∙ ap (λ t. y ∷ t) (same_lines m lines xs ys a.1 b.1)
+
+-- ---- the first line that breaks it is one
+
+not_both : (line : List ℕ) → Keeps line → Breaks line → ⊥
+not_both line keeps breaks = breaks keeps.0 keeps.1 keeps.2
+
+in_the_middle : (before : List (List ℕ)) (line : List ℕ) (after : List (List ℕ)) → All Keeps (before ++ line ∷ after) → Keeps line
+in_the_middle [] line after h = All-head Keeps line after h
+in_the_middle (x ∷ before) line after h = in_the_middle before line after (All-tail Keeps x (before ++ line ∷ after) h)
+
+-- where all lines keep the grammar none is the first that breaks it
+pub none_broken : (lines : List (List ℕ)) (number : ℕ) → All Keeps lines → FirstBroken lines number → ⊥
+none_broken lines number h f = not_both f.line (in_the_middle f.before f.line f.after (subst (All Keeps) f.parts h)) f.broken
+
+heads : (x y : List ℕ) (xs ys : List (List ℕ)) → x ∷ xs ≡ y ∷ ys → (x ≡ y) × (xs ≡ ys)
+heads x y xs ys e = (cc, cc)
+
+same_place : (b c : List (List ℕ)) (x y : List ℕ) (xs ys : List (List ℕ)) → b ++ x ∷ xs ≡ c ++ y ∷ ys → All Keeps b → All Keeps c → Breaks x → Breaks y → length b ≡ length c
+same_place [] [] x y xs ys is hb hc hx hy = refl
+same_place [] (z ∷ c) x y xs ys is hb hc hx hy =
+    let parts = heads x z xs (c ++ y ∷ ys) is in
+    absurd (not_both z (All-head Keeps z c hc) (subst Breaks parts.0 hx))
+same_place (z ∷ b) [] x y xs ys is hb hc hx hy =
+    let parts = heads z y (b ++ x ∷ xs) ys is in
+    absurd (not_both z (All-head Keeps z b hb) (subst Breaks (sym parts.0) hy))
+same_place (z ∷ b) (w ∷ c) x y xs ys is hb hc hx hy =
+    let parts = heads z w (b ++ x ∷ xs) (c ++ y ∷ ys) is in
+    ap suc (same_place b c x y xs ys parts.1 (All-tail Keeps z b hb) (All-tail Keeps w c hc) hx hy)
+
+same_number : (lines : List (List ℕ)) (m n : ℕ) → FirstBroken lines m → FirstBroken lines n → m ≡ n
+same_number lines m n a b =
+    let same = same_place a.before b.before a.line b.line a.after b.after (sym a.parts ∙ b.parts) a.kept b.kept a.broken b.broken in
+    a.number_is ∙ ap (λ k. k + 1) same ∙ sym b.number_is
+
+-- ---- whole texts
+
+-- lines that keep the grammar have answers
+pub kept_answer : OneMeaning → (text : List ℕ) → IsShort text → All Keeps (lines_of text) → (output : List ℕ) × ShownAs text (Ok output)
+kept_answer m text short keeps = let a = lines_answers m (lines_of text) keeps in (ended a.0, (short, a.0, a.1, refl))
+
+answered : OneMeaning → (text : List ℕ) → IsShort text → ToldLines (lines_of text) → (answer : Result (List ℕ) ShowRefusal) × ShownAs text answer
+answered m text short (inl keeps) =
+    let a = kept_answer m text short keeps in (Ok a.0, a.1)
+answered m text short (inr f) = (Err (BadLine f.0), (short, f.1))
+
+-- each text has an answer
+pub some_answer : OneMeaning → (text : List ℕ) → (answer : Result (List ℕ) ShowRefusal) × ShownAs text answer
+some_answer m text =
+    elim (cases_lt line_limit (length (lines_of text))) [
+      | inl many ↦ (Err (TooManyLines line_limit), (refl, many))
+      | inr few ↦ answered m text few (tell (lines_of text))
+    ]
+
+no_bad : (text : List ℕ) (answers : List (List ℕ)) (number : ℕ) → AreAnswered (lines_of text) answers → FirstBroken (lines_of text) number → ⊥
+no_bad text answers number a f = none_broken (lines_of text) number (kept_before (lines_of text) answers a) f
+
+-- and no other
+pub one_answer : OneMeaning → (text : List ℕ) (a b : Result (List ℕ) ShowRefusal) → ShownAs text a → ShownAs text b → a ≡ b
+one_answer m text (Ok x) (Ok y) a b = ap Ok (a.3 ∙ ap ended (same_lines m (lines_of text) a.1 b.1 a.2 b.2) ∙ sym b.3)
+one_answer m text (Ok x) (Err (BadLine n)) a b = absurd (no_bad text a.1 n a.2 b.1)
+one_answer m text (Ok x) (Err (TooManyLines l)) a b = absurd (omega (arith, a.0, b.1))
+one_answer m text (Ok x) (Err NoMemory) a b = absurd b
+one_answer m text (Err (BadLine n)) (Ok y) a b = absurd (no_bad text b.1 n b.2 a.1)
+one_answer m text (Err (BadLine n)) (Err (BadLine k)) a b = ap (λ i. Err (BadLine i)) (same_number (lines_of text) n k a.1 b.1)
+one_answer m text (Err (BadLine n)) (Err (TooManyLines l)) a b = absurd (omega (arith, a.0, b.1))
+one_answer m text (Err (BadLine n)) (Err NoMemory) a b = absurd b
+one_answer m text (Err (TooManyLines l)) (Ok y) a b = absurd (omega (arith, b.0, a.1))
+one_answer m text (Err (TooManyLines l)) (Err (BadLine k)) a b = absurd (omega (arith, b.0, a.1))
+one_answer m text (Err (TooManyLines l)) (Err (TooManyLines k)) a b = ap (λ i. Err (TooManyLines i)) (a.0 ∙ sym b.0)
+one_answer m text (Err (TooManyLines l)) (Err NoMemory) a b = absurd b
+one_answer m text (Err NoMemory) b ha hb = absurd ha

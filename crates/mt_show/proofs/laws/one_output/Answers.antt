@@ -1,0 +1,11 @@
+use Rattle.mt_show.proofs.OneOutput.{some_answer, one_answer, kept_answer}
+use Rattle.mt_show.proofs.laws.one_output.Goals as goal
+
+pub returns-clause-some : goal.returns-clause-some
+returns-clause-some c = some_answer (record { value = c.one_meaning.ensures.value; fault = c.one_meaning.ensures.fault; one_of_both = c.one_meaning.ensures.one_of_both; never_both = c.one_meaning.ensures.never_both })
+
+pub returns-clause-one : goal.returns-clause-one
+returns-clause-one c = one_answer (record { value = c.one_meaning.ensures.value; fault = c.one_meaning.ensures.fault; one_of_both = c.one_meaning.ensures.one_of_both; never_both = c.one_meaning.ensures.never_both })
+
+pub returns-clause-kept : goal.returns-clause-kept
+returns-clause-kept c = kept_answer (record { value = c.one_meaning.ensures.value; fault = c.one_meaning.ensures.fault; one_of_both = c.one_meaning.ensures.one_of_both; never_both = c.one_meaning.ensures.never_both })

@@ -1,0 +1,66 @@
+-- What is printed of a show file: the answer to each of its lines, or why there is none.
+use Rattle.std.specs.Prelude.{◌≡◌, ℕ, ◌+◌, ◌<◌, List, [], ◌∷◌, ◌++◌, length, All, Result, Ok, Err}
+use Rattle.std.specs.List.{join_with_byte}
+use Rattle.carrier.specs.declared.first_layout.Refusal1.{Refusal1}
+use Rattle.mt_script.specs.Lines.{lines_of, ended}
+use Rattle.mt_script.specs.Meaning.{IsShort, line_limit}
+use Rattle.udp1_packets.specs.Value.{Packet}
+use Rattle.udp1_packets.specs.Layout.{Spells}
+use Rattle.udp1_packets.specs.Faults.{Refused}
+use Rattle.mt_show.specs.declared.asked.Asked.{Asked}
+use Rattle.mt_show.specs.declared.asked.Asked.TheVariants.{FirstLayout}
+use Rattle.mt_show.specs.declared.refusal.ShowRefusal.{ShowRefusal}
+use Rattle.mt_show.specs.declared.refusal.ShowRefusal.TheVariants.{BadLine, TooManyLines, NoMemory}
+use Rattle.mt_show.specs.Grammar.{first_word, spelled, IsAsked, Keeps, Breaks}
+use Rattle.mt_show.specs.Words.{packet_words, refusal_words}
+
+-- bytes as a datagram of the first layout: the packet that they spell, or their first fault
+pub data ShownFirst (bytes : List ℕ) (words : List (List ℕ)) : Type 0 where
+  packet : (p : Packet) → Spells bytes p → words ≡ packet_words p → ShownFirst bytes words
+  refused : (r : Refusal1) → Refused bytes r → words ≡ refusal_words r → ShownFirst bytes words
+
+-- these words are shown of what was asked for
+abbrev pub Shown : Asked → List (List ℕ) → Type 0
+Shown (FirstLayout bytes) words = ShownFirst bytes words
+
+-- A line keeps the grammar, and this is its answer: its first word and the words that are shown,
+-- with one blank between each two.
+pub record Answers (line answer : List ℕ) : Type 0 where
+  pub asked : Asked
+  pub words : List (List ℕ)
+  pub is_asked : IsAsked asked
+  pub line_is : line ≡ spelled asked
+  pub shown : Shown asked words
+  pub answer_is : answer ≡ join_with_byte 32 (first_word asked ∷ words)
+
+-- each line is answered by what stands at its place
+abbrev pub AreAnswered : List (List ℕ) → List (List ℕ) → Type 0
+AreAnswered [] [] = Unit {0}
+AreAnswered (line ∷ lines) (answer ∷ answers) = Answers line answer × AreAnswered lines answers
+AreAnswered [] (answer ∷ answers) = ⊥
+AreAnswered (line ∷ lines) [] = ⊥
+
+-- the first line that breaks the grammar has this number
+pub record FirstBroken (lines : List (List ℕ)) (number : ℕ) : Type 0 where
+  pub before : List (List ℕ)
+  pub line : List ℕ
+  pub after : List (List ℕ)
+  pub parts : lines ≡ before ++ line ∷ after
+  pub kept : All Keeps before
+  pub broken : Breaks line
+  pub number_is : number ≡ length before + 1
+
+-- What is printed of a whole text: the answers to its lines, each ended; or its first line that
+-- breaks the grammar. That it has too many lines is looked at before its lines are.
+abbrev pub ShownAs : List ℕ → Result (List ℕ) ShowRefusal → Type 0
+ShownAs text (Ok output) =
+    IsShort text × (answers : List (List ℕ)) × AreAnswered (lines_of text) answers × (output ≡ ended answers)
+ShownAs text (Err (BadLine number)) = IsShort text × FirstBroken (lines_of text) number
+ShownAs text (Err (TooManyLines limit)) = (limit ≡ line_limit) × (line_limit < length (lines_of text))
+ShownAs text (Err NoMemory) = ⊥
+
+-- what was answered is what is printed, where memory sufficed
+abbrev pub Shows : List ℕ → Result (List ℕ) ShowRefusal → Type 0
+Shows text (Ok output) = ShownAs text (Ok output)
+Shows text (Err NoMemory) = Unit {0}
+Shows text (Err refusal) = ShownAs text (Err refusal)

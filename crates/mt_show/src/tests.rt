@@ -1,0 +1,152 @@
+use super::*;
+use std::test::*;
+
+#[test]
+fn shows_the_parts_of_packets(rt: HostRuntime) -> Result<(), Fail> {
+    let rows: [(&[u8], &[u8]); 8] = [
+        (
+            b"v1 000000020040000400010200",
+            b"v1 ack=2 window=64 marks=0000 vector=r2 bare rest=0\n",
+        ),
+        (
+            b"v1 000000010040000400010000",
+            b"v1 ack=1 window=64 marks=0000 vector=r0 bare rest=0\n",
+        ),
+        (
+            b"v1 0000000000000000",
+            b"v1 ack=0 window=0 marks=0000 bare rest=0\n",
+        ),
+        (
+            b"v1 000000010040001400000000010203",
+            b"v1 ack=1 window=64 marks=0010 vector=- bare rest=3\n",
+        ),
+        (
+            b"v1 000000070040010c000302c33fffffff0000000600000009000000084142",
+            b"v1 ack=7 window=64 marks=0000 vector=r2,m3,r63 aoa=6 data coded=9 start=8 bytes=4142\n",
+        ),
+        (
+            b"v1 00000001ffff000800000000ffffffff",
+            b"v1 ack=1 window=65535 marks=0000 data coded=0 start=4294967295 bytes=-\n",
+        ),
+        (
+            b"v1 000000010000001a000000030000000205040000",
+            b"v1 ack=1 window=0 marks=0002 fec coded=3 start=2 range=5 index=4 bytes=-\n",
+        ),
+        (
+            b"v1 000000010040001800000003000000020504ffff0aff",
+            b"v1 ack=1 window=64 marks=0000 fec coded=3 start=2 range=5 index=4 bytes=0aff\n",
+        ),
+    ];
+    for (line, answer) in rows {
+        assert_eq!(rt; show(rt.alloc(), line)?.bytes(), answer);
+    }
+    one_output();
+    Ok(())
+}
+
+#[test]
+fn shows_openings(rt: HostRuntime) -> Result<(), Fail> {
+    let rows: [(&[u8], &[u8]); 3] = [
+        (
+            b"v1 ffffffff004000010000000104d004d00000",
+            b"v1 ack=4294967295 window=64 marks=0000 syn initial=1 up=1232 down=1232 padding=2\n",
+        ),
+        (
+            b"v1 0000000500401a050000000a046c04d0abababababababababababababababababababababababababababababababab00010002",
+            b"v1 ack=5 window=64 marks=0200 synack initial=10 up=1132 down=1232 correlation=abababababababababababababababababababababababababababababababab flags=0001 version=0002 padding=0\n",
+        ),
+        (
+            b"v1 ffffffff004010010000000104d004d000010101cdcdcdcdcdcdcdcdcdcdcdcdcdcdcdcdcdcdcdcdcdcdcdcdcdcdcdcdcdcdcdcd00",
+            b"v1 ack=4294967295 window=64 marks=0000 syn initial=1 up=1232 down=1232 flags=0001 version=0101 hash=cdcdcdcdcdcdcdcdcdcdcdcdcdcdcdcdcdcdcdcdcdcdcdcdcdcdcdcdcdcdcdcd padding=1\n",
+        ),
+    ];
+    for (line, answer) in rows {
+        assert_eq!(rt; show(rt.alloc(), line)?.bytes(), answer);
+    }
+    Ok(())
+}
+
+#[test]
+fn shows_faults(rt: HostRuntime) -> Result<(), Fail> {
+    let rows: [(&[u8], &[u8]); 8] = [
+        (b"v1 -", b"v1 refused Short at 0\n"),
+        (
+            b"v1 000000010040000400014300",
+            b"v1 refused BadState at 10\n",
+        ),
+        (
+            b"v1 00000001004000040801",
+            b"v1 refused VectorTooLong at 8\n",
+        ),
+        (
+            b"v1 ffffffff0040000100000001046b04d0",
+            b"v1 refused BadMtu at 12\n",
+        ),
+        (
+            b"v1 ffffffff004010010000000104d004d000010003",
+            b"v1 refused BadVersion at 18\n",
+        ),
+        (b"v1 ffffffff00400009", b"v1 refused SynWithData at 6\n"),
+        (
+            b"v1 ffffffff004000010000000104d004d00001",
+            b"v1 refused PaddingNotZero at 17\n",
+        ),
+        (b"v1 0000000100400100", b"v1 refused Short at 8\n"),
+    ];
+    for (line, answer) in rows {
+        assert_eq!(rt; show(rt.alloc(), line)?.bytes(), answer);
+    }
+    Ok(())
+}
+
+#[test]
+fn answers_each_line(rt: HostRuntime) -> Result<(), Fail> {
+    let rows: [(&[u8], &[u8]); 4] = [
+        (b"", b""),
+        (b"v1 -", b"v1 refused Short at 0\n"),
+        (b"v1 -\n", b"v1 refused Short at 0\n"),
+        (
+            b"v1 0000000000000000\nv1 00",
+            b"v1 ack=0 window=0 marks=0000 bare rest=0\nv1 refused Short at 0\n",
+        ),
+    ];
+    for (text, answers) in rows {
+        assert_eq!(rt; show(rt.alloc(), text)?.bytes(), answers);
+    }
+    Ok(())
+}
+
+#[test]
+fn refuses_other_lines(rt: HostRuntime) -> Result<(), Fail> {
+    let rows: [(&[u8], u64); 12] = [
+        (b"\n", 1),
+        (b"# a comment\n", 1),
+        (b"v1\n", 1),
+        (b"v1 \n", 1),
+        (b"v1 0\n", 1),
+        (b"v1 AB\n", 1),
+        (b"v1 00 \n", 1),
+        (b"v1  00\n", 1),
+        (b" v1 00\n", 1),
+        (b"v1 00\r\n", 1),
+        (b"v2 00\n", 1),
+        (b"v1 -\nv1 00\nplay\n\n", 3),
+    ];
+    for (text, line) in rows {
+        match show(rt.alloc(), text) {
+            Err(refusal) => assert_eq!(rt; refusal, ShowRefusal::BadLine { line }),
+            Ok(_) => assert!(rt; false, "a line is none of a show file"),
+        }
+    }
+    Ok(())
+}
+
+#[test]
+fn counts_lines_first(rt: HostRuntime) -> Result<(), Fail> {
+    let text = vec![in rt.alloc(); b'\n'; 4_000_001]?;
+    match show(rt.alloc(), &text) {
+        Err(refusal) => { assert_eq!(rt; refusal, ShowRefusal::TooManyLines { limit: 4_000_000 }) }
+        Ok(_) => assert!(rt; false, "a text has too many lines"),
+    }
+    Ok(())
+}

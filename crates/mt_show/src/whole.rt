@@ -1,0 +1,87 @@
+//! A whole text, shown line by line.
+
+ghost use Rattle.std.specs.Prelude.{OnOk};
+ghost use Rattle.mt_script.specs.Meaning.{IsShort};
+ghost use Rattle.mt_show.specs.declared.asked.Asked.TheVariants.{FirstLayout};
+ghost use Rattle.mt_show.specs.Answer.{Shows};
+ghost use Rattle.mt_show.specs.Steps.{AddsShown, AddsAnswer, AddsLine};
+
+use crate::asked::{Asked, read_line};
+use crate::output::Output;
+use crate::packets::{packet, refusal};
+use crate::refusal::ShowRefusal;
+use mt_base::NoMemory;
+use mt_script::{LINE_LIMIT, Text, count_lines, cut_line};
+use std::alloc::Global;
+use udp1_packets::read1;
+
+/// What is printed of a show file: for each line its answer.
+///
+/// A text of more than 4,000,000 lines is refused before a line is read; else the first line that
+/// is none of a show file is. Bytes that are no packet are no reason to refuse: their line is
+/// answered by their first fault.
+pub fn show(alloc: Global, bytes: &[u8]) -> Result<Text, ShowRefusal>
+    ensures { Shows bytes.now result }
+{
+    if count_lines(bytes) > LINE_LIMIT {
+        return Err(ShowRefusal::TooManyLines { limit: LINE_LIMIT });
+    }
+    show_lines(alloc, bytes)
+}
+
+/// What is printed of a text that has not too many lines.
+fn show_lines(alloc: Global, text: &[u8]) -> Result<Text, ShowRefusal>
+    requires { IsShort text.now }
+    ensures { Shows text.now result }
+{
+    let mut out = Output::new(alloc);
+    let mut number = 0;
+    let mut rest = text;
+    while !rest.is_empty() {
+        let (line, after) = cut_line(rest);
+        number += 1;
+        match show_line(&mut out, alloc, line, number) {
+            Ok(()) => {}
+            Err(refusal) => return Err(refusal),
+        }
+        rest = after;
+    }
+    Ok(out.into_text())
+}
+
+/// Adds the answer to the line of this number, and its end.
+fn show_line(out: &mut Output, alloc: Global, line: &[u8], number: u64) -> Result<(), ShowRefusal>
+    ensures { AddsLine line.now number out.old.bytes.items out.new.bytes.items result }
+{
+    match read_line(alloc, line) {
+        Ok(Some(asked)) => match answer(out, &asked) {
+            Ok(()) => Ok(()),
+            Err(NoMemory) => Err(ShowRefusal::NoMemory),
+        },
+        Ok(None) => Err(ShowRefusal::BadLine { line: number }),
+        Err(NoMemory) => Err(ShowRefusal::NoMemory),
+    }
+}
+
+/// Adds what is shown of what was asked for, and the end of the line.
+fn answer(out: &mut Output, asked: &Asked) -> Result<(), NoMemory>
+    ensures { OnOk result (AddsAnswer asked.now out.old.bytes.items out.new.bytes.items) }
+{
+    match asked {
+        Asked::FirstLayout { bytes } => show_first(out, bytes.bytes())?,
+    }
+    out.put(b"\n")?;
+    Ok(())
+}
+
+/// Adds bytes as a datagram of the first layout.
+fn show_first(out: &mut Output, bytes: &[u8]) -> Result<(), NoMemory>
+    ensures { OnOk result (AddsShown (FirstLayout bytes.now) out.old.bytes.items out.new.bytes.items) }
+{
+    out.put(b"v1")?;
+    match read1(bytes) {
+        Ok(spelled) => packet(out, spelled)?,
+        Err(fault) => refusal(out, fault)?,
+    }
+    Ok(())
+}
