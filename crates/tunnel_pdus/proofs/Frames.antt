@@ -1,6 +1,6 @@
 -- Main frames at the front of a stream: what is spelled is read, each fault is the answer, and bytes
 -- begin a frame, have a fault, or want more.
-use Rattle.std.proofs.Common.{◌≡◌, ◌≢◌, ◌⊎◌, inl, inr, ℕ, zero, suc, ◌+◌, ◌-◌, ◌/◌, ◌%◌, ◌^◌, ◌<◌, ◌≤◌, cond, ltb, List, [], ◌∷◌, ◌++◌, length, take, drop, replicate, Option, Some, None, Result, Ok, Err, refl, sym, ap, ◌∙◌, subst, arith, append_assoc, append-nil, length-append}
+use Rattle.std.proofs.Common.{◌≡◌, ◌≢◌, ◌⊎◌, inl, inr, ℕ, ◌+◌, ◌-◌, ◌^◌, ◌<◌, ◌≤◌, cond, ltb, List, [], ◌∷◌, ◌++◌, length, take, drop, replicate, Some, None, Result, Ok, Err, refl, sym, ap, ◌∙◌, subst, arith, append_assoc, append-nil, length-append}
 use Rattle.std.proofs.lemmas.Bool.{cases_lt, cases_eq, lt-ltb, le-ltb, eq-eqb, ne_eqb}
 use Rattle.std.proofs.lemmas.List.{take-append-drop, length-take-le, length-replicate, drop_at}
 use Rattle.std.proofs.lemmas.List.Elements.{All-append, All-cons, All-nil, All-head, All-tail, All-take}
@@ -19,8 +19,8 @@ use Rattle.tunnel_pdus.specs.declared.part.TunnelReason.TheVariants as reason
 use Rattle.tunnel_pdus.specs.declared.part.TunnelRefusal.{TunnelRefusal}
 use Rattle.tunnel_pdus.specs.declared.stop.Stop.{Stop}
 use Rattle.tunnel_pdus.specs.declared.stop.Stop.TheVariants as stop
-use Rattle.tunnel_pdus.specs.Value.{Frame, Request, Response, Channel, AreBytes, IsFrameLength, FitsFrame, kind_code, protocol_code, frame_kind, body, body_length, frame_layout, frame_fields}
-use Rattle.tunnel_pdus.specs.Reading.{◌>>=◌, refused, told, byte, number, window, kind_of, named_kind, kind_at, checked_body, frame_length_at, protocol_of, cookie_at, request_at, response_at, channel_at, body_at, frame_at, frame_reading}
+use Rattle.tunnel_pdus.specs.Value.{Frame, Request, Response, Channel, AreBytes, IsFrameLength, FitsFrame, kind_code, protocol_code, frame_layout, frame_fields}
+use Rattle.tunnel_pdus.specs.Reading.{◌>>=◌, refused, told, kind_of, named_kind, kind_at, checked_body, frame_length_at, protocol_of, cookie_at, request_at, response_at, channel_at, body_at, frame_at, frame_reading}
 use Rattle.tunnel_pdus.specs.Layout.{SpellsFrame}
 use Rattle.tunnel_pdus.specs.Faults.{WrongBody, body_long, request_body, response_body, channel_body, RefusedFrame, bad_kind, bad_body_length, bad_protocol}
 use Rattle.tunnel_pdus.specs.Streams.{Begins}

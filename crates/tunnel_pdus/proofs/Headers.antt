@@ -1,9 +1,9 @@
 -- The header of a tunnel PDU: read where it keeps its rules.
-use Rattle.std.proofs.Common.{◌≡◌, ◌⊎◌, inl, inr, ℕ, zero, suc, ◌+◌, ◌%◌, ◌/◌, ◌^◌, ◌<◌, ◌≤◌, eqb, ltb, cond, List, [], ◌∷◌, ◌++◌, length, drop, replicate, Result, Ok, Err, refl, sym, ap, ◌∙◌, subst, arith, append_assoc, append-nil, length-append}
+use Rattle.std.proofs.Common.{◌≡◌, ◌⊎◌, inl, inr, ℕ, zero, suc, ◌+◌, ◌%◌, ◌/◌, ◌^◌, ◌<◌, ◌≤◌, eqb, ltb, cond, List, [], ◌∷◌, ◌++◌, length, drop, replicate, Result, Ok, Err, refl, sym, ap, ◌∙◌, arith, append_assoc, append-nil, length-append}
 use Rattle.std.proofs.lemmas.Bool.{lt-ltb, le-ltb, eq-eqb, ne_eqb, cases_eq, cases_lt}
 use Rattle.std.proofs.lemmas.List.{drop_at}
 use Rattle.std.proofs.lemmas.List.Elements.{All-cons, All-nil}
-use Rattle.byteorder.specs.Endian.{little_bytes, little_number}
+use Rattle.byteorder.specs.Endian.{little_bytes}
 use Rattle.byteorder.specs.Numbers.{little_number-reads_back}
 use Rattle.mt_base.specs.Writing.{joined}
 use Rattle.mt_base.proofs.Numbers.{IsBytes}
@@ -15,7 +15,7 @@ use Rattle.tunnel_pdus.specs.declared.part.TunnelReason.TheVariants as reason
 use Rattle.tunnel_pdus.specs.declared.stop.Stop.{Stop}
 use Rattle.tunnel_pdus.specs.declared.stop.Stop.TheVariants as stop
 use Rattle.tunnel_pdus.specs.Value.{Pdu, CreateRequest, CreateResponse, Data, IsLengthOf, AreBytes, FitsPdu, action_code, pdu_action, payload, payload_length}
-use Rattle.tunnel_pdus.specs.Reading.{◌>>=◌, refused, byte, number, named, action_of, action_at, checked, length_at, header_at, sub_headers_at, pdu_in, payload_at, pdu_at}
+use Rattle.tunnel_pdus.specs.Reading.{◌>>=◌, refused, named, action_of, action_at, checked, length_at, header_at, sub_headers_at, pdu_in, payload_at, pdu_at}
 use Rattle.tunnel_pdus.specs.Layout.{headed}
 use Rattle.tunnel_pdus.specs.Faults.{WrongPayload, request_length, response_length, data_length}
 use Rattle.tunnel_pdus.proofs.Windows.{byte_of, byte_cut, number_of, number_cut}

@@ -1,6 +1,6 @@
 -- Tunnel PDUs at the front of a stream: what is spelled is read, each fault is the answer, and bytes
 -- begin a PDU, have a fault, or want more.
-use Rattle.std.proofs.Common.{◌≡◌, ◌⊎◌, inl, inr, ℕ, zero, suc, ◌+◌, ◌-◌, ◌%◌, ◌/◌, ◌^◌, ◌<◌, ◌≤◌, cond, List, [], ◌∷◌, ◌++◌, length, take, drop, replicate, Result, Ok, Err, refl, sym, ap, ◌∙◌, subst, arith, append_assoc, append-nil, length-append}
+use Rattle.std.proofs.Common.{◌≡◌, inl, inr, ℕ, zero, suc, ◌+◌, ◌-◌, ◌^◌, ◌<◌, ◌≤◌, cond, List, [], ◌∷◌, ◌++◌, length, take, drop, replicate, Ok, Err, refl, sym, ap, ◌∙◌, subst, arith, append_assoc, append-nil, length-append}
 use Rattle.std.specs.List.{All}
 use Rattle.std.proofs.lemmas.Bool.{cases_lt, lt-ltb}
 use Rattle.std.proofs.lemmas.List.{take-append-drop, length-take-le, length-replicate}
@@ -15,17 +15,16 @@ use Rattle.tunnel_pdus.specs.declared.part.Part.TheVariants.{Whole, More}
 use Rattle.tunnel_pdus.specs.declared.part.TunnelReason.{TunnelReason}
 use Rattle.tunnel_pdus.specs.declared.part.TunnelReason.TheVariants as reason
 use Rattle.tunnel_pdus.specs.declared.part.TunnelRefusal.{TunnelRefusal}
-use Rattle.tunnel_pdus.specs.declared.stop.Stop.{Stop}
 use Rattle.tunnel_pdus.specs.declared.stop.Stop.TheVariants as stop
 use Rattle.tunnel_pdus.specs.Value.{Pdu, IsLengthOf, FitsPdu, pdu_fields, action_code, pdu_action, payload, payload_length}
-use Rattle.tunnel_pdus.specs.Reading.{◌>>=◌, refused, told, action_at, length_at, header_at, checked, sub_headers_at, payload_at, pdu_in, pdu_at, reading}
+use Rattle.tunnel_pdus.specs.Reading.{◌>>=◌, refused, told, action_at, length_at, header_at, sub_headers_at, pdu_in, pdu_at, reading}
 use Rattle.tunnel_pdus.specs.Layout.{Spells, IsSubHeader, headed}
 use Rattle.tunnel_pdus.specs.Faults.{Refused, bad_action, bad_flags, bad_length, bad_header, bad_sub_header, WrongSubHeader, sub_length, sub_type}
 use Rattle.tunnel_pdus.specs.Streams.{Begins}
 use Rattle.tunnel_pdus.proofs.Grammars.{Grammar, Decided, whole, faulty, waiting}
 use Rattle.tunnel_pdus.proofs.Windows.{window_of, window_cut, byte_cut}
 use Rattle.tunnel_pdus.proofs.SubHeaders.{sub_done, sub_pass, sub_stop, sub_reads, sub_type_cut, sub_length_cut, sub_wrong, subs_pass}
-use Rattle.tunnel_pdus.proofs.Headers.{action_unknown, action_flags, FirstByte, is_action, no_action, has_flags, first_or, length_or, length_small, length_reads, length_cut, checked_wrong, too_big, header_reads, header_cut, from_action, from_length, from_header, at_first, at_length, at_header, past_header, payload_or, payload_reads, payload_long, payload_known, zeros_are, high}
+use Rattle.tunnel_pdus.proofs.Headers.{action_unknown, action_flags, is_action, no_action, has_flags, first_or, length_or, length_reads, length_cut, checked_wrong, too_big, header_reads, header_cut, from_header, at_first, at_length, at_header, past_header, payload_or, payload_reads, payload_long, payload_known, zeros_are, high}
 
 -- ---- what a chain of reads tells
 

@@ -1,8 +1,7 @@
 -- Tunnel PDUs and main frames as values of lists and numbers, and the bytes that a writer spells
 -- for them (MS-RDPEMT section 2.2, MS-RDPBCGR section 2.2.15).
-use Rattle.std.specs.Prelude.{◌≡◌, ℕ, ◌^◌, ◌<◌, ◌≤◌, List, [], ◌∷◌, length, All, replicate}
+use Rattle.std.specs.Prelude.{◌≡◌, ℕ, ◌^◌, ◌<◌, ◌≤◌, List, [], ◌∷◌, length, All}
 use Rattle.byteorder.specs.Endian.{little_bytes}
-use Rattle.mt_base.specs.Writing.{joined}
 use Rattle.mt_base.specs.declared.kinds.Kind.{Kind}
 use Rattle.mt_base.specs.declared.kinds.Kind.TheVariants.{Reliable, Lossy}
 use Rattle.tunnel_pdus.specs.declared.action.Action.{Action}

@@ -1,4 +1,4 @@
-use Rattle.std.proofs.Common.{sym, refl, ◌∙◌}
+use Rattle.std.proofs.Common.{sym}
 use Rattle.tunnel_pdus.proofs.Grammars.{front_is, is_front, one_front, no_prefix, one_value}
 use Rattle.tunnel_pdus.proofs.Frames.{grammar}
 use Rattle.tunnel_pdus.proofs.laws.frame_meaning.Goals as goal
