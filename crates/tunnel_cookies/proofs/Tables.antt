@@ -174,3 +174,74 @@ pub opens_one : (before last : Entries) (steps : List Step) (a b id : ℕ) (kind
 opens_one before last steps a b id kind other cookie text v first run then =
     let s = steps_kept a id (after a id Opened (entry_of id before) before) last steps run (opened_spends a id kind cookie before (entry_of id before) Opened refl first refl) in
     told_spent a b other text s.entry (entry_of id last) v s.by_link s.is then
+
+-- ---- a verdict is one
+
+-- what a verdict says of an entry
+abbrev Says : ℕ → Kind → List ℕ → Entry → Verdict → Type 0
+Says link kind cookie e Unknown = ⊥
+Says link kind cookie e WrongCookie = cookie ≢ e.cookie
+Says link kind cookie e WrongKind = (cookie ≡ e.cookie) × (kind ≢ e.kind)
+Says link kind cookie e Again = (cookie ≡ e.cookie) × (kind ≡ e.kind) × (e.spender ≡ Some link)
+Says link kind cookie e (Spent other) = (cookie ≡ e.cookie) × (kind ≡ e.kind) × (e.spender ≡ Some other) × (other ≢ link)
+Says link kind cookie e Opened = (cookie ≡ e.cookie) × (kind ≡ e.kind) × (e.spender ≡ None)
+
+abbrev SaysOf : ℕ → Kind → List ℕ → Option Entry → Verdict → Type 0
+SaysOf link kind cookie None v = v ≡ Unknown
+SaysOf link kind cookie (Some e) v = Says link kind cookie e v
+
+says : (link : ℕ) (kind : Kind) (cookie : List ℕ) (o : Option Entry) (v : Verdict) → IsVerdict link kind cookie o v → SaysOf link kind cookie o v
+says link kind cookie _ _ unknown = refl
+says link kind cookie _ _ (wrong_cookie e c) = c
+says link kind cookie _ _ (wrong_kind e c k) = (c, k)
+says link kind cookie _ _ (again e c k l) = (c, k, l)
+says link kind cookie _ _ (spent e other c k l n) = (c, k, l, n)
+says link kind cookie _ _ (opened e c k l) = (c, k, l)
+
+one_spender : {a b : ℕ} {o : Option ℕ} → o ≡ Some a → o ≡ Some b → a ≡ b
+one_spender {a} {b} p q = let both : Some a ≡ Some b = sym p ∙ q in cc
+
+no_spender : {P : Type 0} {a : ℕ} {o : Option ℕ} → o ≡ Some a → o ≡ None → P
+no_spender {a = a} p q = absurd (let both : Some a ≡ None = sym p ∙ q in cc)
+
+one_says : (link : ℕ) (kind : Kind) (cookie : List ℕ) (e : Entry) (v w : Verdict) → Says link kind cookie e v → Says link kind cookie e w → v ≡ w
+one_says link kind cookie e Unknown Unknown s t = absurd s
+one_says link kind cookie e Unknown WrongCookie s t = absurd s
+one_says link kind cookie e Unknown WrongKind s t = absurd s
+one_says link kind cookie e Unknown Again s t = absurd s
+one_says link kind cookie e Unknown (Spent y) s t = absurd s
+one_says link kind cookie e Unknown Opened s t = absurd s
+one_says link kind cookie e WrongCookie Unknown s t = absurd t
+one_says link kind cookie e WrongCookie WrongCookie s t = refl
+one_says link kind cookie e WrongCookie WrongKind s t = absurd (s t.0)
+one_says link kind cookie e WrongCookie Again s t = absurd (s t.0)
+one_says link kind cookie e WrongCookie (Spent y) s t = absurd (s t.0)
+one_says link kind cookie e WrongCookie Opened s t = absurd (s t.0)
+one_says link kind cookie e WrongKind Unknown s t = absurd t
+one_says link kind cookie e WrongKind WrongCookie s t = absurd (t s.0)
+one_says link kind cookie e WrongKind WrongKind s t = refl
+one_says link kind cookie e WrongKind Again s t = absurd (s.1 t.1)
+one_says link kind cookie e WrongKind (Spent y) s t = absurd (s.1 t.1)
+one_says link kind cookie e WrongKind Opened s t = absurd (s.1 t.1)
+one_says link kind cookie e Again Unknown s t = absurd t
+one_says link kind cookie e Again WrongCookie s t = absurd (t s.0)
+one_says link kind cookie e Again WrongKind s t = absurd (t.1 s.1)
+one_says link kind cookie e Again Again s t = refl
+one_says link kind cookie e Again (Spent y) s t = absurd (t.3 (one_spender t.2 s.2))
+one_says link kind cookie e Again Opened s t = no_spender s.2 t.2
+one_says link kind cookie e (Spent x) Unknown s t = absurd t
+one_says link kind cookie e (Spent x) WrongCookie s t = absurd (t s.0)
+one_says link kind cookie e (Spent x) WrongKind s t = absurd (t.1 s.1)
+one_says link kind cookie e (Spent x) Again s t = absurd (s.3 (one_spender s.2 t.2))
+one_says link kind cookie e (Spent x) (Spent y) s t = ap Spent (one_spender s.2 t.2)
+one_says link kind cookie e (Spent x) Opened s t = no_spender s.2 t.2
+one_says link kind cookie e Opened Unknown s t = absurd t
+one_says link kind cookie e Opened WrongCookie s t = absurd (t s.0)
+one_says link kind cookie e Opened WrongKind s t = absurd (t.1 s.1)
+one_says link kind cookie e Opened Again s t = no_spender t.2 s.2
+one_says link kind cookie e Opened (Spent y) s t = no_spender t.2 s.2
+one_says link kind cookie e Opened Opened s t = refl
+
+pub one_verdict : (link : ℕ) (kind : Kind) (cookie : List ℕ) (o : Option Entry) (v w : Verdict) → IsVerdict link kind cookie o v → IsVerdict link kind cookie o w → v ≡ w
+one_verdict link kind cookie None v w a b = says link kind cookie None v a ∙ sym (says link kind cookie None w b)
+one_verdict link kind cookie (Some e) v w a b = one_says link kind cookie e v w (says link kind cookie (Some e) v a) (says link kind cookie (Some e) w b)

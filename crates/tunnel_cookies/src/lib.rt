@@ -11,7 +11,7 @@ mod laws;
 
 pub use entry::{Entry, IssueRefusal, Verdict};
 pub use issued::Issued;
-pub use laws::one_link;
+pub use laws::{one_link, one_verdict};
 
 #[cfg(test)]
 mod tests;

@@ -122,6 +122,48 @@ fn refuses_at_the_first_fault(rt: HostRuntime) {
 }
 
 #[test]
+fn passes_over_sub_headers_of_each_length(rt: HostRuntime) {
+    let mut bytes = [0; 256];
+    bytes[0] = 2;
+    for length in 2..252u8 {
+        let used = 4 + usize::from(length);
+        bytes[3] = 4 + length;
+        for kind in 0..2 {
+            bytes[4] = length;
+            bytes[5] = kind;
+            let value = TunnelPdu::Data { payload: &[] };
+            assert_eq!(rt;
+                read_tunnel(&bytes),
+                Ok(Part::Whole { value, used }),
+                "at {length}"
+            );
+            assert_eq!(rt;
+                read_tunnel(&bytes[..used - 1]),
+                Ok(Part::More { need: used }),
+                "at {length}"
+            );
+            bytes[4] = length + 1;
+            let refusal = refused(4, TunnelReason::BadSubHeader);
+            assert_eq!(rt; read_tunnel(&bytes), Err(refusal), "at {length}");
+        }
+    }
+}
+
+#[test]
+fn takes_payloads_up_to_1600_bytes(rt: HostRuntime) {
+    let mut bytes = [0x30; 1604];
+    bytes[0] = 2;
+    bytes[1] = 0x40;
+    bytes[2] = 0x06;
+    bytes[3] = 4;
+    let value = TunnelPdu::Data {
+        payload: &[0x30; 1600],
+    };
+    assert_eq!(rt; read_tunnel(&bytes), Ok(Part::Whole { value, used: 1604 }));
+    assert_eq!(rt; read_tunnel(&bytes[..1603]), Ok(Part::More { need: 1604 }));
+}
+
+#[test]
 fn wants_more_of_a_frame(rt: HostRuntime) {
     let cuts = [
         (&[] as &[u8], 1),
