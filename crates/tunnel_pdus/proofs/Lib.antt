@@ -1,0 +1,7 @@
+pub mod Spaces
+pub mod Grammars
+pub mod Windows
+pub mod SubHeaders
+pub mod Headers
+pub mod Tunnels
+pub mod Frames
