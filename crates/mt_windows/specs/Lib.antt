@@ -1,2 +1,4 @@
+pub mod Noted
+pub mod NotedView
 pub mod Arrived
 pub mod ArrivedView

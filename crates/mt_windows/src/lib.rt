@@ -10,7 +10,9 @@
 
 mod limits;
 mod receive;
+mod seen;
 mod slot;
 
 pub use limits::{DATAGRAM, NUMBERS, PART, QUEUE, SPAN, TELL, WINDOW};
 pub use receive::{Accept, ReceiveWindow};
+pub use seen::Seen;

@@ -5,7 +5,7 @@ ghost use Rattle.mt_windows.specs.Arrived.{Parts, part_at, passed, drained, grea
 ghost use Rattle.mt_windows.specs.ArrivedView.{IsWithin, Keeps, Receives, left_of, kept, is_drained, past_front};
 
 use crate::limits::WINDOW;
-use crate::slot::{Slot, empty_slots};
+use crate::slot::{Slot, clear_all, empty_slots};
 use mt_base::{NoMemory, Width};
 use std::alloc::Global;
 use std::marker::{Model, PhantomData};
@@ -61,6 +61,20 @@ impl<W: Width> ReceiveWindow<W> {
             slots,
             width: PhantomData,
         })
+    }
+
+    /// Forgets everything, for parts from the number `first` on.
+    pub fn restart(&mut self, first: u64)
+        requires from { 1 ≤ first }
+        requires below { first < 2 ^ 33 }
+        ensures starts { Receives self.new first [] 0 }
+        ensures left { left_of self.new ≡ [] }
+    {
+        self.first = first;
+        self.passed = 0;
+        self.used = 0;
+        self.greatest = None;
+        clear_all(&mut self.slots);
     }
 
     /// The number of the least part that was not handed out in full.

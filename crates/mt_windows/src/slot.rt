@@ -86,3 +86,12 @@ pub fn empty_slots(alloc: Global, count: usize) -> Result<Vec<Slot>, NoMemory>
     }
     Ok(slots)
 }
+
+/// Takes the parts out of all slots.
+pub fn clear_all(slots: &mut Vec<Slot>)
+    ensures { slots.new.items ≡ replicate (length slots.old.items) None }
+{
+    for place in 0..slots.len() {
+        slots[place].clear();
+    }
+}
