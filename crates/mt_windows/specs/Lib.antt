@@ -2,3 +2,5 @@ pub mod Noted
 pub mod NotedView
 pub mod Arrived
 pub mod ArrivedView
+pub mod Sending
+pub mod SendingView

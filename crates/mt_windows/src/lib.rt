@@ -8,7 +8,9 @@
 //! the window stands for afterwards. No contract speaks of what a window keeps of it.
 #![tactic(auto)]
 
+mod flight;
 mod limits;
+mod queue;
 mod receive;
 mod seen;
 mod slot;
