@@ -1,6 +1,6 @@
 -- Lemmas on numbers that were seen.
-use Rattle.std.proofs.Common.{◌≡◌, ◌≢◌, ℕ, zero, suc, ◌+◌, ◌-◌, ◌<◌, ◌≤◌, ◌⊎◌, inl, inr, Bool, true, false, eqb, ltb, leb, cond, ◌||◌, ◌&&◌, List, [], ◌∷◌, ◌++◌, length, get_or, take, drop, set, max, min, Option, Some, None, unwrap_or, refl, sym, ap, ◌∙◌, subst, arith, length-drop, length-take}
-use Rattle.std.proofs.lemmas.List.{get_or-set_same, get_or-set_other, get_or-append_right, get_or-take, length-set, get_or-drop}
+use Rattle.std.proofs.Common.{◌≡◌, ◌≢◌, ℕ, ◌+◌, ◌-◌, ◌<◌, ◌≤◌, ◌⊎◌, inl, inr, Bool, true, false, eqb, ltb, cond, ◌||◌, ◌&&◌, List, [], ◌∷◌, ◌++◌, length, get_or, take, drop, set, max, min, Some, None, unwrap_or, refl, sym, ap, ◌∙◌, subst, arith, length-drop}
+use Rattle.std.proofs.lemmas.List.{get_or-set_same, get_or-set_other, get_or-append_right, get_or-take, length-set}
 use Rattle.std.proofs.lemmas.Bool.{cases_lt, cases_eq}
 use Rattle.std.proofs.lemmas.Bool.Decides.{nat_tests}
 use Rattle.mt_windows.specs.Noted.{greatest_of, is_noted, is_seen}
@@ -100,8 +100,8 @@ too_old s noted number g h is le old =
     record {
       greatest_is = is ∙ ap Some same;
       recent_are = λ k lk lek.
-        let other : eqb (unwrap_or s.greatest 0 - k) number ≡ false = grind (arith, nat_tests) in
-        h.recent_are k lk lek ∙ sym (ap (λ b. b || is_noted (unwrap_or s.greatest 0 - k) noted) other);
+          let other : eqb (unwrap_or s.greatest 0 - k) number ≡ false = grind (arith, nat_tests) in
+          h.recent_are k lk lek ∙ sym (ap (λ b. b || is_noted (unwrap_or s.greatest 0 - k) noted) other);
     }
 
 -- ---- what is asked
@@ -130,7 +130,7 @@ shift_marks xs rot out n step place k turned long within l at_end cleared =
         ap (λ b. cond b false (get_or rot k false)) t ∙ sym (ap (λ b. cond b false (get_or xs (k - step) false)) t)
     by_place (inr far) =
         ap (λ b. cond (ltb k step) false b)
-          (ap (λ ys. get_or ys k false) (turned ∙ ap (λ m. drop (m - step) xs ++ take (m - step) xs) long) ∙ moved_at xs step k within far l)
+        (ap (λ ys. get_or ys k false) (turned ∙ ap (λ m. drop (m - step) xs ++ take (m - step) xs) long) ∙ moved_at xs step k within far l)
 
 -- the marks that a match on the greatest number leads to
 pub noted_new : (s : Marks) (ys : List Bool) (t number g : ℕ) (noted : List ℕ) → Notes s noted → s.greatest ≡ Some g → g < number → length s.recent ≡ t → length ys ≡ t → 0 < t
@@ -140,7 +140,7 @@ noted_new s ys t number g noted h is above old_size size some marks =
     let top : unwrap_or s.greatest 0 ≡ g = ap (λ o. unwrap_or o 0) is in
     let before : unwrap_or (greatest_of noted) 0 ≡ g = ap (λ o. unwrap_or o 0) (sym h.greatest_is) ∙ top in
     let old : (k : ℕ) → k < t → k ≤ g → get_or s.recent k false ≡ is_noted (g - k) noted =
-      λ k l le. h.recent_are k (omega (arith, old_size)) (omega (arith, top)) ∙ ap (λ m. is_noted (m - k) noted) top in
+    λ k l le. h.recent_are k (omega (arith, old_size)) (omega (arith, top)) ∙ ap (λ m. is_noted (m - k) noted) top in
     moved_on ys t 1 number noted size some (omega arith) (omega (arith, before)) (by_gap before old (cases_lt (number - g) t))
   where
     by_gap : unwrap_or (greatest_of noted) 0 ≡ g → ((k : ℕ) → k < t → k ≤ g → get_or s.recent k false ≡ is_noted (g - k) noted) → (number - g < t) ⊎ (t ≤ number - g)
@@ -148,11 +148,11 @@ noted_new s ys t number g noted h is above old_size size some marks =
     by_gap before old (inl near) =
         let e : min (number - g) t ≡ number - g = omega arith in
         shifted_near s.recent ys t g number noted before above old
-          (λ k l. marks k (omega (arith, old_size)) ∙ ap (λ m. cond (ltb k m) false (get_or s.recent (k - m) false)) e)
+        (λ k l. marks k (omega (arith, old_size)) ∙ ap (λ m. cond (ltb k m) false (get_or s.recent (k - m) false)) e)
     by_gap before old (inr far) =
         let e : min (number - g) t ≡ t = omega arith in
         shifted_far s.recent ys t g number noted before (omega arith)
-          (λ k l. marks k (omega (arith, old_size)) ∙ ap (λ m. cond (ltb k m) false (get_or s.recent (k - m) false)) e)
+        (λ k l. marks k (omega (arith, old_size)) ∙ ap (λ m. cond (ltb k m) false (get_or s.recent (k - m) false)) e)
 
 pub noted_first : (s : Marks) (ys : List Bool) (t number : ℕ) (noted : List ℕ) → Notes s noted → s.greatest ≡ None → length s.recent ≡ t → length ys ≡ t → 0 < t
     → ((k : ℕ) → k < length s.recent → get_or ys k false ≡ cond (ltb k t) false (get_or s.recent (k - t) false))
@@ -160,5 +160,5 @@ pub noted_first : (s : Marks) (ys : List Bool) (t number : ℕ) (noted : List �
 noted_first s ys t number noted h is old_size size some marks =
     let none = none_noted noted (sym h.greatest_is ∙ is) in
     subst (λ xs. Notes (record { greatest = Some number; recent = set ys 0 true }) (number ∷ xs)) (sym none)
-      (moved_on ys t 1 number [] size some (omega arith) (omega arith)
-        (λ k p l le. marks k (omega (arith, old_size)) ∙ (let c : ltb k t ≡ true = grind (arith, nat_tests) in ap (λ b. cond b false (get_or s.recent (k - t) false)) c)))
+    (moved_on ys t 1 number [] size some (omega arith) (omega arith)
+    (λ k p l le. marks k (omega (arith, old_size)) ∙ (let c : ltb k t ≡ true = grind (arith, nat_tests) in ap (λ b. cond b false (get_or s.recent (k - t) false)) c)))

@@ -1,11 +1,13 @@
 -- Lemmas on parts that arrive in any order.
-use Rattle.std.proofs.Common.{◌≡◌, ◌≢◌, ℕ, zero, suc, ◌+◌, ◌-◌, ◌<◌, ◌≤◌, ◌⊎◌, inl, inr, Bool, true, false, eqb, ltb, leb, cond, List, [], ◌∷◌, ◌++◌, length, get_or, take, drop, set, replicate, max, min, Option, Some, None, is_some, IsSome, unwrap_or, refl, sym, ap, ◌∙◌, subst, append_assoc, append-nil, arith, length-append, length-drop}
+use Rattle.std.proofs.Common.{◌≡◌, ◌≢◌, ℕ, zero, suc, ◌+◌, ◌-◌, ◌<◌, ◌≤◌, ◌⊎◌, inl, inr, Bool, true, false, eqb, ltb, leb, cond, List, [], ◌∷◌, ◌++◌, length, get_or, take, drop, set, replicate, max, Option, Some, None, is_some, unwrap_or, refl, sym, ap, ◌∙◌, subst, append_assoc, append-nil, arith, length-append, length-drop}
 use Rattle.std.proofs.lemmas.List.{drop-drop, get_or-drop, get_or-set_same, get_or-set_other, drop-append-le, drop_at, drop_all, get_or_past, get_or_read, length-take-le}
 use Rattle.std.proofs.Math.Seq.{take-add, take-append-add, drop-append-add}
 use borrow.Rule.Slice.PartMut.{put_mid}
-use Rattle.std.proofs.lemmas.Bool.{cases_lt, cases_eq}
+use Rattle.std.proofs.lemmas.Bool.{cases_eq}
 use Rattle.std.proofs.lemmas.Bool.Decides.{nat_tests}
-use Rattle.mt_windows.specs.Arrived.{Parts, part_at, put, passed, drained, end_of, greatest_part, has_part, verdict}
+use Rattle.mt_windows.specs.declared.receive.Accept.{Accept}
+use Rattle.mt_windows.specs.declared.receive.Accept.TheVariants.{New, Again, Beyond}
+use Rattle.mt_windows.specs.Arrived.{Parts, part_at, put, passed, drained, end_of, greatest_part, has_part, verdict, with_part}
 use Rattle.mt_windows.specs.ArrivedView.{Inbox, left_of, IsWithin, IsBehind, IsNext, Keeps, Receives, is_drained, kept, past_front}
 
 -- the parts behind which a window stands are drained, and the next one is not
@@ -156,10 +158,10 @@ keeps_kept w first parts n part ahead bytes h l e =
       first_is = h.first_is;
       behind = behind_put parts w.passed n w.used (part - first) bytes (omega (arith, place)) h.behind;
       slots_are = λ k.
-        set_at w.slots ahead k (Some bytes) l (cases_eq k ahead)
-        ∙ ap (λ p. cond (eqb k ahead) (Some bytes) p) (h.slots_are k)
-        ∙ ap (λ b. cond b (Some bytes) (part_at parts (w.passed + k))) (eqb_shift w.passed k ahead ∙ ap (λ m. eqb (w.passed + k) m) (sym place))
-        ∙ sym (put_at parts (part - first) (w.passed + k) bytes (cases_eq (w.passed + k) (part - first)));
+          set_at w.slots ahead k (Some bytes) l (cases_eq k ahead)
+          ∙ ap (λ p. cond (eqb k ahead) (Some bytes) p) (h.slots_are k)
+          ∙ ap (λ b. cond b (Some bytes) (part_at parts (w.passed + k))) (eqb_shift w.passed k ahead ∙ ap (λ m. eqb (w.passed + k) m) (sym place))
+          ∙ sym (put_at parts (part - first) (w.passed + k) bytes (cases_eq (w.passed + k) (part - first)));
       greatest_is = greatest_put w.greatest first parts part (part - first) bytes h.greatest_is number;
     }
   where
@@ -168,7 +170,7 @@ keeps_kept w first parts n part ahead bytes h l e =
         let end = end_of-put parts k bytes in
         let some : ltb 0 (end_of (put parts k bytes)) ≡ true = grind (arith, nat_tests) in
         let value : max part (unwrap_or g 0) ≡ first + end_of (put parts k bytes) - 1 =
-          ap (λ m. max m (unwrap_or g 0)) e ∙ ap (λ o. max (first + k) (unwrap_or o 0)) is ∙ greatest_more first (end_of parts) k ∙ ap (λ m. first + m - 1) (sym end) in
+        ap (λ m. max m (unwrap_or g 0)) e ∙ ap (λ o. max (first + k) (unwrap_or o 0)) is ∙ greatest_more first (end_of parts) k ∙ ap (λ m. first + m - 1) (sym end) in
         ap Some value ∙ sym (ap (λ b. cond b (Some (first + end_of (put parts k bytes) - 1)) None) some)
 
 -- a part in an empty place only adds to what is left
@@ -178,10 +180,11 @@ set_adds (None ∷ xs) zero used bytes none within = (bytes ++ passed xs, ap (λ
 set_adds (None ∷ xs) (suc k) used bytes none within = ([], sym (append-nil (drop used [])))
 set_adds (Some b ∷ xs) zero used bytes none within = absurd (cc)
 set_adds (Some b ∷ xs) (suc k) used bytes none within =
-    let rest = passed_adds xs k bytes none in
-    (rest.0,
+    let rest = passed_adds xs k bytes none in (
+      rest.0,
       ap (λ c. drop used (b ++ c)) rest.1 ∙ ap (drop used) (sym (append_assoc b (passed xs) rest.0))
-      ∙ drop-append-le used (b ++ passed xs) rest.0 (omega (arith, within, length-append b (passed xs))))
+          ∙ drop-append-le used (b ++ passed xs) rest.0 (omega (arith, within, length-append b (passed xs))),
+    )
   where
     passed_adds : (xs : Parts) (k : ℕ) (bytes : List ℕ) → part_at xs k ≡ None → (more : List ℕ) × (passed (set xs k (Some bytes)) ≡ passed xs ++ more)
     passed_adds [] k bytes none = ([], refl)
@@ -230,6 +233,7 @@ left_past w bytes front all = of_slots w.slots w.used front all
     past_end [] = refl
     past_end (None ∷ xs) = refl
     past_end (Some b ∷ xs) = ap (λ c. b ++ c) (past_end xs)
+
     of_slots : (xs : Parts) (used : ℕ) → part_at xs 0 ≡ Some bytes → used ≡ length bytes → passed (drop 1 xs ++ None ∷ []) ≡ drop used (passed xs)
     of_slots [] used front all = absurd (cc)
     of_slots (None ∷ xs) used front all = absurd (cc)
@@ -258,9 +262,10 @@ front_left (Some b ∷ xs) bytes used front within =
 pub past_step : (w v : Inbox) → v ≡ past_front w → is_drained (part_at w.slots 0) w.used ≡ true → IsWithin (part_at w.slots 0) w.used
     → ((first : ℕ) (parts : Parts) (n : ℕ) → Keeps w first parts n → Keeps v first parts n) × (left_of v ≡ left_of w)
 past_step w v e drained within =
-    let all = drained_all (part_at w.slots 0) w.used drained within in
-    (λ first parts n h. subst (λ u. Keeps u first parts n) (sym e) (keeps_past w first parts n all.0 all.1 all.2 h),
-      ap left_of e ∙ left_past w all.0 all.1 all.2)
+    let all = drained_all (part_at w.slots 0) w.used drained within in (
+      λ first parts n h. subst (λ u. Keeps u first parts n) (sym e) (keeps_past w first parts n all.0 all.1 all.2 h),
+      ap left_of e ∙ left_past w all.0 all.1 all.2,
+    )
 
 pub not_drained : (p : Option (List ℕ)) (used : ℕ) → is_drained p used ≡ false → IsNext p used
 not_drained None used h = tt
@@ -326,3 +331,45 @@ piece_rest count r out piece from l before now =
 pub piece_within : (count r : ℕ) (out piece : List ℕ) → count ≤ length out → length piece ≡ length out - count → r ≤ length out - count → count + r ≤ length (put_mid count (length out - count) out piece)
 piece_within count r out piece l size within =
     omega (arith, ap length (filled count out piece l), length-append (take count out) piece, length-take-le count out l)
+
+-- ---- laws
+pub put_adds : (parts : Parts) (k : ℕ) (bytes : List ℕ) → part_at parts k ≡ None → (more : List ℕ) × (passed (put parts k bytes) ≡ passed parts ++ more)
+put_adds [] zero bytes none = (bytes ++ [], refl)
+put_adds [] (suc k) bytes none = ([], refl)
+put_adds (None ∷ parts) zero bytes none = (bytes ++ passed parts, refl)
+put_adds (None ∷ parts) (suc k) bytes none = ([], refl)
+put_adds (Some b ∷ parts) zero bytes none = absurd (cc)
+put_adds (Some b ∷ parts) (suc k) bytes none =
+    let rest = put_adds parts k bytes none in
+    (rest.0, ap (λ c. b ++ c) rest.1 ∙ sym (append_assoc b (passed parts) rest.0))
+
+none_of : (p : Option (List ℕ)) → is_some p ≡ false → p ≡ None
+none_of None h = refl
+none_of (Some b) h = absurd (cc)
+
+pub verdict_new : (window first : ℕ) (parts : Parts) (n part : ℕ) → verdict window first parts n part ≡ New → (first ≤ part) × (part_at parts (part - first) ≡ None)
+verdict_new window first parts n part h = by_low (ltb part (first + drained parts n)) refl h
+  where
+    by_has : first ≤ part → (c : Bool) → ltb part first ≡ c → cond (cond c false (is_some (part_at parts (part - first)))) Again New ≡ New → (first ≤ part) × (part_at parts (part - first) ≡ None)
+    by_has le true e is = absurd (let less : part < first = grind (arith, nat_tests) in omega arith)
+    by_has le false e is = (le, by_some (part_at parts (part - first)) is)
+      where
+        by_some : (p : Option (List ℕ)) → cond (is_some p) Again New ≡ New → p ≡ None
+        by_some None is = refl
+        by_some (Some b) is = absurd (cc)
+
+    by_high : first ≤ part → (b : Bool) → cond b (Beyond (first + drained parts n + window)) (cond (has_part first parts part) Again New) ≡ New → (first ≤ part) × (part_at parts (part - first) ≡ None)
+    by_high le true is = absurd (cc)
+    by_high le false is = by_has le (ltb part first) refl is
+
+    by_low : (b : Bool) → ltb part (first + drained parts n) ≡ b → cond b Again (cond (leb (first + drained parts n + window) part) (Beyond (first + drained parts n + window)) (cond (has_part first parts part) Again New)) ≡ New → (first ≤ part) × (part_at parts (part - first) ≡ None)
+    by_low true e is = absurd (cc)
+    by_low false e is = by_high (let ge : first + drained parts n ≤ part = grind (arith, nat_tests) in omega arith) (leb (first + drained parts n + window) part) is
+
+pub with_part_adds : (window first : ℕ) (parts : Parts) (n part : ℕ) (bytes : List ℕ) → (more : List ℕ) × (passed (with_part (verdict window first parts n part) parts (part - first) bytes) ≡ passed parts ++ more)
+with_part_adds window first parts n part bytes = by_answer (verdict window first parts n part) refl
+  where
+    by_answer : (v : Accept) → verdict window first parts n part ≡ v → (more : List ℕ) × (passed (with_part v parts (part - first) bytes) ≡ passed parts ++ more)
+    by_answer New e = put_adds parts (part - first) bytes (verdict_new window first parts n part e).1
+    by_answer Again e = ([], sym (append-nil (passed parts)))
+    by_answer (Beyond limit) e = ([], sym (append-nil (passed parts)))

@@ -9,12 +9,17 @@
 #![tactic(auto)]
 
 mod flight;
+mod laws;
 mod limits;
 mod queue;
 mod receive;
 mod seen;
 mod slot;
 
+pub use laws::{parts_arrive_once, seen_was_noted};
 pub use limits::{DATAGRAM, NUMBERS, PART, QUEUE, SPAN, TELL, WINDOW};
 pub use receive::{Accept, ReceiveWindow};
 pub use seen::Seen;
+
+#[cfg(test)]
+mod tests;

@@ -18,9 +18,7 @@ pub enum Accept {
     /// The part was accepted before; nothing changed.
     Again,
     /// The part is at or above this limit; nothing changed.
-    Beyond {
-        limit: u64,
-    },
+    Beyond { limit: u64 },
 }
 
 /// The parts that came and are not yet handed out, and the order in which they are.

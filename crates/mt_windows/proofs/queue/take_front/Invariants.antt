@@ -8,5 +8,5 @@ invariant-loop-place l = record {
   items : l.queue.items ≡ drop l.place l.fn.queue.items;
   bytes : take l.place l.out ≡ take l.place l.fn.queue.items;
   rest : drop l.place l.out ≡ drop l.place l.fn.out;
-  capacity : deque_capacity l.fn.queue ≤ deque_capacity l.queue
+  capacity : deque_capacity l.fn.queue ≤ deque_capacity l.queue;
 }

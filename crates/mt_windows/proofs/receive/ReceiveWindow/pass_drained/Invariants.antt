@@ -1,4 +1,4 @@
-use Rattle.std.proofs.Common.{◌≡◌, ◌+◌, ◌-◌, ◌<◌, ◌≤◌, ◌^◌, ◌⊎◌, ℕ}
+use Rattle.std.proofs.Common.{◌≡◌, ◌-◌, ◌<◌, ◌^◌, ◌⊎◌, ℕ}
 use Rattle.mt_windows.specs.Arrived.{Parts}
 use Rattle.mt_windows.specs.ArrivedView.{Keeps, left_of}
 use Rattle.mt_windows.proofs.receive.ReceiveWindow.pass_drained.Given as goal
@@ -8,7 +8,7 @@ invariant-loop-self g l = record {
   holds : (first : ℕ) (parts : Parts) (n : ℕ) → Keeps l.fn.self first parts n → Keeps l.self first parts n;
   left : left_of l.self ≡ left_of l.fn.self;
   first : l.self.first ≡ l.fn.self.first;
-  moved : (l.self ≡ l.fn.self) ⊎ (l.fn.self.passed < l.self.passed)
+  moved : (l.self ≡ l.fn.self) ⊎ (l.fn.self.passed < l.self.passed);
 }
 
 abbrev pub decreases-loop-self : goal.decreases-loop-self

@@ -10,7 +10,7 @@ invariant-loop-count g l = record {
   bytes : take l.count l.out ≡ take l.count (left_of l.fn.self);
   rest : drop l.count l.out ≡ drop l.count l.fn.out;
   left : left_of l.self ≡ drop l.count (left_of l.fn.self);
-  holds : (first : ℕ) (parts : Parts) (n : ℕ) → Receives l.fn.self first parts n → Receives l.self first parts (n + l.count)
+  holds : (first : ℕ) (parts : Parts) (n : ℕ) → Receives l.fn.self first parts n → Receives l.self first parts (n + l.count);
 }
 
 abbrev pub decreases-loop-count : goal.decreases-loop-count

@@ -8,7 +8,7 @@ pub returns-then-number-greatest : goal.returns-then-number-greatest
 returns-then-number-greatest g c noted h =
     let same : c.in-Some.greatest - (c.in-Some.greatest - c.args.number) ≡ c.args.number = omega (arith, c.if-number-greatest.true) in
     subst (λ (n : ℕ). Notes c.mark.new.self (n ∷ noted)) same
-      (c.mark.ensures noted c.in-Some.greatest (ap (λ s. s.greatest) (sym c.self.view_is) ∙ c.in-Some.is) (omega arith) h)
+    (c.mark.ensures noted c.in-Some.greatest (ap (λ s. s.greatest) (sym c.self.view_is) ∙ c.in-Some.is) (omega arith) h)
 
 pub returns : goal.returns
 returns g c noted h =
