@@ -3,4 +3,5 @@ pub mod NotedView
 pub mod Arrived
 pub mod ArrivedView
 pub mod Sending
+pub mod FlightView
 pub mod SendingView

@@ -1,5 +1,5 @@
 -- What a sender gave, sent and was told. Parts and transmissions are counted from 0.
-use Rattle.std.specs.Prelude.{ℕ, zero, suc, ◌+◌, ◌-◌, Bool, false, not, ◌==◌, ◌||◌, ◌&&◌, nat_lt, nat_le, min, max, if◌then◌else◌, List, [], ◌∷◌, ◌++◌, length, take, drop, get_or, Option, Some, None, unwrap_or}
+use Rattle.std.specs.Prelude.{◌≡◌, ◌⊎◌, ℕ, zero, suc, ◌+◌, ◌-◌, Bool, true, false, not, ◌==◌, ◌||◌, ◌&&◌, nat_lt, nat_le, min, max, if◌then◌else◌, List, [], ◌∷◌, ◌++◌, length, take, drop, get_or, Option, Some, None, unwrap_or}
 use Rattle.mt_base.specs.Trace.{Trace, Start, ◌▷◌}
 use Rattle.mt_base.specs.Writing.{joined}
 
@@ -188,3 +188,10 @@ settles_part limits first t number = nat_le first number && is_open limits t (nu
 abbrev pub settles_transmission : Limits → ℕ → Trace Act → ℕ → Bool
 settles_transmission limits first t number =
     nat_le first number && (is_recent limits t (number - first) && is_open limits t (part_of t (number - first)))
+
+-- this part was told as received, or a transmission that carried it was
+abbrev pub WasTold : Trace Act → ℕ → Type 0
+WasTold Start p = ⊥
+WasTold (t ▷ ToldPart q) p = (p ≡ q) ⊎ WasTold t p
+WasTold (t ▷ ToldTransmission j) p = (part_of t j ≡ p) ⊎ WasTold t p
+WasTold (t ▷ e) p = WasTold t p

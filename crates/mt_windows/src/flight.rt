@@ -1,4 +1,4 @@
-//! A part in flight.
+//! Parts in flight.
 
 use crate::slot::Slot;
 

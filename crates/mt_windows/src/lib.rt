@@ -9,17 +9,22 @@
 #![tactic(auto)]
 
 mod flight;
+mod flights;
 mod laws;
 mod limits;
 mod queue;
 mod receive;
 mod seen;
+mod send;
 mod slot;
 
-pub use laws::{parts_arrive_once, seen_was_noted};
+pub use laws::{
+    parts_are_pieces, parts_arrive_once, queued_or_settled, seen_was_noted, settled_was_told,
+};
 pub use limits::{DATAGRAM, NUMBERS, PART, QUEUE, SPAN, TELL, WINDOW};
 pub use receive::{Accept, ReceiveWindow};
 pub use seen::Seen;
+pub use send::{Full, SendWindow, Sent};
 
 #[cfg(test)]
 mod tests;

@@ -68,3 +68,99 @@ fn numbers_seen_of_late(rt: HostRuntime) -> Result<(), Fail> {
     seen_was_noted();
     Ok(())
 }
+
+fn cut_next(window: &mut SendWindow<W32>, told: u64, out: &mut [u8; 1000]) -> Option<Sent> {
+    if window.may_cut(told) {
+        Some(window.cut(told, out))
+    } else {
+        None
+    }
+}
+
+fn resend_lowest(window: &mut SendWindow<W32>, out: &mut [u8; 1000]) -> Option<Sent> {
+    let part = window.lowest()?;
+    if window.reach() < SPAN && window.made() + 1 < NUMBERS {
+        Some(window.resend(part, out))
+    } else {
+        None
+    }
+}
+
+#[test]
+fn a_lost_part(rt: HostRuntime) -> Result<(), Fail> {
+    let mut window = SendWindow::new(rt.alloc(), 65_535)?;
+    let mut out = [0; 1000];
+    assert_eq!(rt; window.give(&[65, 66]), Ok(()));
+    let sent = Sent {
+        part: 65_535,
+        transmission: 65_535,
+        length: 2,
+    };
+    assert_eq!(rt; cut_next(&mut window, 64, &mut out), Some(sent));
+    assert_eq!(rt; cut_next(&mut window, 64, &mut out), None);
+    assert_eq!(rt; (window.queued(), window.reach()), (2, 1));
+    let again = Sent {
+        part: 65_535,
+        transmission: 65_536,
+        length: 2,
+    };
+    assert_eq!(rt; resend_lowest(&mut window, &mut out), Some(again));
+    assert!(rt; out[0] == 65 && out[1] == 66 && out[2] == 0);
+    assert!(rt; !window.tell_part(65_536) && window.tell_part(65_535));
+    assert!(rt; !window.tell_part(65_535));
+    assert_eq!(rt; window.lowest(), None);
+    assert_eq!(rt; (window.queued(), window.reach()), (0, 0));
+    assert_eq!(rt; (window.made(), window.last_cut()), (65_536, 65_535));
+    assert_eq!(rt;
+        (window.floor_part(), window.floor_transmission()),
+        (65_536, 65_537)
+    );
+    Ok(())
+}
+
+#[test]
+fn a_part_passed_over(rt: HostRuntime) -> Result<(), Fail> {
+    let mut window = SendWindow::new(rt.alloc(), 1)?;
+    let mut out = [0; 1000];
+    assert_eq!(rt; window.give(&[7; 3_500]), Ok(()));
+    for _ in 0..4 {
+        let _ = cut_next(&mut window, 64, &mut out);
+    }
+    assert_eq!(rt; cut_next(&mut window, 64, &mut out), None);
+    assert!(rt; !window.tell_transmission(5) && window.tell_transmission(2));
+    assert!(rt; window.tell_transmission(4) && !window.tell_transmission(4));
+    assert_eq!(rt; window.passed_over(), None);
+    assert!(rt; window.tell_transmission(3));
+    assert_eq!(rt; window.passed_over(), Some(1));
+    assert_eq!(rt; (window.queued(), window.floor_transmission()), (1_000, 1));
+    let again = Sent {
+        part: 1,
+        transmission: 5,
+        length: 1_000,
+    };
+    assert_eq!(rt; resend_lowest(&mut window, &mut out), Some(again));
+    assert_eq!(rt; window.passed_over(), None);
+    assert!(rt; window.tell_transmission(1));
+    assert_eq!(rt; (window.queued(), window.floor_part()), (0, 5));
+    Ok(())
+}
+
+#[test]
+fn a_sender_full(rt: HostRuntime) -> Result<(), Fail> {
+    let mut window = SendWindow::new(rt.alloc(), 8_589_934_591)?;
+    let mut out = [0; 1000];
+    let bytes = vec![in rt.alloc(); 5; QUEUE]?;
+    assert_eq!(rt; window.give(bytes.as_slice()), Ok(()));
+    assert_eq!(rt; window.give(&[]), Ok(()));
+    assert_eq!(rt; window.give(&[5]), Err(Full { queued: 2_097_152 }));
+    assert!(rt; cut_next(&mut window, 1, &mut out).is_some());
+    assert_eq!(rt; cut_next(&mut window, 1, &mut out), None);
+    assert!(rt; window.tell_part(8_589_934_591));
+    assert_eq!(rt; window.give(&[5; 1_000]), Ok(()));
+    window.restart(2);
+    assert_eq!(rt; (window.queued(), window.made()), (0, 1));
+    parts_are_pieces();
+    settled_was_told();
+    queued_or_settled();
+    Ok(())
+}
