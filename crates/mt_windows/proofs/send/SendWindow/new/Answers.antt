@@ -1,0 +1,13 @@
+use Rattle.std.proofs.Common.{arith}
+use Rattle.mt_windows.proofs.InFlight.{starts_out, sound_start}
+use Rattle.mt_windows.proofs.send.SendWindow.new.Goals as goal
+
+pub returns : goal.returns
+returns g c = starts_out c.args.first 64 _ _ _ c.in_ok-waiting.ensures.items c.in_ok-carried.ensures.items c.in_ok-flights.ensures
+
+pub invariant_of-result : goal.invariant_of-result
+invariant_of-result g c = record {
+  sound = sound_start c.args.first _ _ _ c.requires.from c.requires.below c.in_ok-waiting.ensures.items c.in_ok-carried.ensures.items c.in_ok-flights.ensures;
+  room = omega (arith, c.in_ok-waiting.ensures.capacity);
+  memory = omega (arith, c.in_ok-carried.ensures.capacity);
+}

@@ -1,0 +1,7 @@
+pub mod Noted
+pub mod NotedView
+pub mod Arrived
+pub mod ArrivedView
+pub mod Sending
+pub mod FlightView
+pub mod SendingView

@@ -1,0 +1,30 @@
+//! The windows of a reliable link: what its sender keeps until it is told that it came, what its
+//! receiver keeps until it can be handed out in order, and which numbers were seen of late.
+//!
+//! Below it stands `mt_base` alone. What the machines of a link use is that each window stands for
+//! a plain history: a [`ReceiveWindow`] for a list of accepted parts and a count of pulled bytes,
+//! a [`Seen`] for the list of noted numbers, a [`SendWindow`] for the list of what was given, cut,
+//! sent again and told. Each call's contract says what it gives of that history, and which history
+//! the window stands for afterwards. No contract speaks of what a window keeps of it.
+#![tactic(auto)]
+
+mod flight;
+mod flights;
+mod laws;
+mod limits;
+mod queue;
+mod receive;
+mod seen;
+mod send;
+mod slot;
+
+pub use laws::{
+    parts_are_pieces, parts_arrive_once, queued_or_settled, seen_was_noted, settled_was_told,
+};
+pub use limits::{DATAGRAM, NUMBERS, PART, QUEUE, SPAN, TELL, WINDOW};
+pub use receive::{Accept, ReceiveWindow};
+pub use seen::Seen;
+pub use send::{Full, SendWindow, Sent};
+
+#[cfg(test)]
+mod tests;
