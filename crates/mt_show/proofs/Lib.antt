@@ -1,4 +1,7 @@
 pub mod Joining
 pub mod Lines
 pub mod Runs
+pub mod Taken
+pub mod Flags
+pub mod FirstWords
 pub mod OneOutput

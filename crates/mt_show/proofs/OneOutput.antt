@@ -1,13 +1,13 @@
 -- Each text has exactly one answer.
-use Rattle.std.proofs.Common.{◌≡◌, ◌≢◌, ℕ, suc, ◌+◌, ◌<◌, ◌^◌, ◌⊎◌, inl, inr, List, [], ◌∷◌, ◌++◌, length, take, drop, codes, Bool, true, false, Result, Ok, Err, refl, sym, ap, ◌∙◌, subst, arith}
+use Rattle.std.proofs.Common.{◌≡◌, ◌≢◌, ℕ, suc, ◌+◌, ◌≤◌, ◌⊎◌, inl, inr, List, [], ◌∷◌, ◌++◌, length, take, drop, codes, Bool, true, false, Result, Ok, Err, refl, sym, ap, ◌∙◌, subst, arith}
 use Rattle.std.specs.Bool.{Decides}
 use Rattle.std.specs.List.{All, join_with_byte}
 use Rattle.std.specs.Str.{bytes_eq}
 use Rattle.std.proofs.lemmas.Bool.{cases_lt}
-use Rattle.std.proofs.lemmas.List.{take-append-drop}
 use Rattle.std.proofs.lemmas.List.Elements.{All-nil, All-cons, All-head, All-tail}
 use Rattle.std.proofs.lemmas.Slice.Eq.{bytes_eq-Decides}
 use Rattle.carrier.specs.declared.first_layout.Refusal1.{Refusal1}
+use Rattle.carrier.specs.declared.second_layout.Refusal2.{Refusal2}
 use Rattle.mt_script.specs.Lines.{lines_of, ended}
 use Rattle.mt_script.specs.Spelling.{IsBytes, hex_text}
 use Rattle.mt_script.specs.Meaning.{IsShort, line_limit}
@@ -15,14 +15,19 @@ use Rattle.mt_script.proofs.Spellings.{Told, tell_bytes, hex_text-injective}
 use Rattle.udp1_packets.specs.Value.{Packet}
 use Rattle.udp1_packets.specs.Layout.{Spells}
 use Rattle.udp1_packets.specs.Faults.{Refused}
+use Rattle.udp2_packets.specs.Value.{Packet as SecondPacket}
+use Rattle.udp2_packets.specs.Layout.{Spells as SpellsSecond}
+use Rattle.udp2_packets.specs.Faults.{Refused as RefusedSecond}
 use Rattle.mt_show.specs.declared.asked.Asked.{Asked}
-use Rattle.mt_show.specs.declared.asked.Asked.TheVariants.{FirstLayout}
+use Rattle.mt_show.specs.declared.asked.Asked.TheVariants.{FirstLayout, SecondLayout}
 use Rattle.mt_show.specs.declared.refusal.ShowRefusal.{ShowRefusal}
 use Rattle.mt_show.specs.declared.refusal.ShowRefusal.TheVariants.{BadLine, TooManyLines, NoMemory}
 use Rattle.mt_show.specs.Grammar.{first_word, spelled, IsAsked, Keeps, Breaks}
 use Rattle.mt_show.specs.Words.{packet_words, refusal_words}
-use Rattle.mt_show.specs.Answer.{ShownFirst, packet, refused, Shown, Answers, AreAnswered, FirstBroken, ShownAs}
+use Rattle.mt_show.specs.SecondWords.{second_words, second_refusal_words}
+use Rattle.mt_show.specs.Answer.{ShownFirst, packet, refused, ShownSecond, second_packet, second_refused, Shown, Answers, AreAnswered, FirstBroken, ShownAs}
 use Rattle.mt_show.proofs.Lines.{kept_before}
+use Rattle.mt_show.proofs.FirstWords.{behind_first, behind_second, letter_is, in_parts, no_kind, no_first, no_second, long_second}
 
 -- ---- a line keeps the grammar or breaks it
 
@@ -30,29 +35,30 @@ told : {P : Type 0} (b : Bool) → Decides b P → P ⊎ (P → ⊥)
 told true h = inl (h.0 refl)
 told false h = inr (λ p. let holds = h.1 p in cc)
 
--- the word behind `v1 `
-behind_first : (line bytes : List ℕ) → line ≡ spelled (FirstLayout bytes) → drop 3 line ≡ hex_text bytes
-behind_first line bytes e = ap (drop 3) e
+-- a line that begins with a kind's word
+tell_first : (line : List ℕ) → take 3 line ≡ codes "v1 " → Told {A = List ℕ} IsBytes hex_text (drop 3 line) → Keeps line ⊎ Breaks line
+tell_first line start (inl word) = inl (FirstLayout word.0, word.1, in_parts line (codes "v1 ") (hex_text word.0) start word.2)
+tell_first line start (inr none) = inr (no_first line start none)
 
-starts_first : (line bytes : List ℕ) → line ≡ spelled (FirstLayout bytes) → take 3 line ≡ codes "v1 "
-starts_first line bytes e = ap (take 3) e
+tell_second : (line : List ℕ) → take 3 line ≡ codes "v2 " → Told {A = List ℕ} IsBytes hex_text (drop 3 line) → Keeps line ⊎ Breaks line
+tell_second line start (inl word) =
+    elim (cases_lt 1232 (length word.0)) [
+      | inl long ↦ inr (long_second line word.0 start word.1 word.2 long)
+      | inr few ↦ inl (SecondLayout word.0, (word.1, few), in_parts line (codes "v2 ") (hex_text word.0) start word.2)
+    ]
+tell_second line start (inr none) = inr (no_second line start (λ bytes is. none bytes is.0))
 
-other_start : (line : List ℕ) → take 3 line ≢ codes "v1 " → Breaks line
-other_start line other (FirstLayout bytes) is e = other (starts_first line bytes e)
-
-no_hex : (line : List ℕ) → ((bytes : List ℕ) → IsBytes bytes → drop 3 line ≢ hex_text bytes) → Breaks line
-no_hex line none (FirstLayout bytes) is e = none bytes is (behind_first line bytes e)
-
-by_word : (line : List ℕ) → take 3 line ≡ codes "v1 " → Told {A = List ℕ} IsBytes hex_text (drop 3 line) → Keeps line ⊎ Breaks line
-by_word line start (inl word) =
-    inl (FirstLayout word.0, word.1, sym (take-append-drop 3 line) ∙ ap (λ t. t ++ drop 3 line) start ∙ ap (λ t. codes "v1 " ++ t) word.2)
-by_word line start (inr none) = inr (no_hex line none)
+begins : (n : ℕ) (line start : List ℕ) → (take n line ≡ start) ⊎ (take n line ≢ start)
+begins n line start = told (bytes_eq (take n line) start) (bytes_eq-Decides (take n line) start)
 
 tell_line : (line : List ℕ) → Keeps line ⊎ Breaks line
 tell_line line =
-    elim (told (bytes_eq (take 3 line) (codes "v1 ")) (bytes_eq-Decides (take 3 line) (codes "v1 "))) [
-      | inl start ↦ by_word line start (tell_bytes (drop 3 line))
-      | inr other ↦ inr (other_start line other)
+    elim (begins 3 line (codes "v1 ")) [
+      | inl start ↦ tell_first line start (tell_bytes (drop 3 line))
+      | inr a ↦ elim (begins 3 line (codes "v2 ")) [
+        | inl start ↦ tell_second line start (tell_bytes (drop 3 line))
+        | inr b ↦ inr (no_kind line a b)
+      ]
     ]
 
 -- all lines keep it, or there is a first that breaks it
@@ -87,19 +93,29 @@ tell (line ∷ lines) = first_line line lines (tell_line line) (tell lines)
 
 -- ---- lines that keep the grammar have one list of answers
 
--- what the layout says of bytes: one packet or one first fault, and not both
-pub record OneMeaning : Type 0 where
-  pub value : (bytes : List ℕ) (p q : Packet) → Spells bytes p → Spells bytes q → p ≡ q
-  pub fault : (bytes : List ℕ) (r q : Refusal1) → Refused bytes r → Refused bytes q → r ≡ q
-  pub one_of_both : (bytes : List ℕ) → All (λ b. b < 2 ^ 8) bytes → ((p : Packet) × Spells bytes p) ⊎ ((r : Refusal1) × Refused bytes r)
-  pub never_both : (bytes : List ℕ) (p : Packet) (r : Refusal1) → Spells bytes p → Refused bytes r → ⊥
+-- What a layout says of bytes that fit it: one value or one first fault, and not both.
+pub record Layout {V R : Type 0} (Fits : List ℕ → Type 0) (Spells : List ℕ → V → Type 0) (Refused : List ℕ → R → Type 0) : Type 0 where
+  pub value : (bytes : List ℕ) (p q : V) → Spells bytes p → Spells bytes q → p ≡ q
+  pub fault : (bytes : List ℕ) (r q : R) → Refused bytes r → Refused bytes q → r ≡ q
+  pub one_of_both : (bytes : List ℕ) → Fits bytes → ((p : V) × Spells bytes p) ⊎ ((r : R) × Refused bytes r)
+  pub never_both : (bytes : List ℕ) (p : V) (r : R) → Spells bytes p → Refused bytes r → ⊥
 
-by_meaning : (bytes : List ℕ) → ((p : Packet) × Spells bytes p) ⊎ ((r : Refusal1) × Refused bytes r) → (words : List (List ℕ)) × ShownFirst bytes words
-by_meaning bytes (inl p) = (packet_words p.0, packet p.0 p.1 refl)
-by_meaning bytes (inr r) = (refusal_words r.0, refused r.0 r.1 refl)
+-- what is known of the layouts
+pub record OneMeaning : Type 0 where
+  pub first : Layout IsBytes Spells Refused
+  pub second : Layout (λ bytes. IsBytes bytes × (length bytes ≤ 1232)) SpellsSecond RefusedSecond
+
+by_first : (bytes : List ℕ) → ((p : Packet) × Spells bytes p) ⊎ ((r : Refusal1) × Refused bytes r) → (words : List (List ℕ)) × ShownFirst bytes words
+by_first bytes (inl p) = (packet_words p.0, packet p.0 p.1 refl)
+by_first bytes (inr r) = (refusal_words r.0, refused r.0 r.1 refl)
+
+by_second : (bytes : List ℕ) → ((p : SecondPacket) × SpellsSecond bytes p) ⊎ ((r : Refusal2) × RefusedSecond bytes r) → (words : List (List ℕ)) × ShownSecond bytes words
+by_second bytes (inl p) = (second_words p.0, second_packet p.0 p.1 refl)
+by_second bytes (inr r) = (second_refusal_words r.0, second_refused r.0 r.1 refl)
 
 some_words : OneMeaning → (asked : Asked) → IsAsked asked → (words : List (List ℕ)) × Shown asked words
-some_words m (FirstLayout bytes) is = by_meaning bytes (m.one_of_both bytes is)
+some_words m (FirstLayout bytes) is = by_first bytes ((m.first).one_of_both bytes is)
+some_words m (SecondLayout bytes) is = by_second bytes ((m.second).one_of_both bytes is)
 
 line_answer : OneMeaning → (line : List ℕ) → Keeps line → (answer : List ℕ) × Answers line answer
 line_answer m line keeps =
@@ -114,17 +130,28 @@ lines_answers m (line ∷ lines) h =
     (first.0 ∷ rest.0, (first.1, rest.1))
 
 same_first : OneMeaning → (bytes : List ℕ) (xs ys : List (List ℕ)) → ShownFirst bytes xs → ShownFirst bytes ys → xs ≡ ys
-same_first m bytes xs ys (packet p s e) (packet q t f) = e ∙ ap packet_words (m.value bytes p q s t) ∙ sym f
-same_first m bytes xs ys (packet p s e) (refused r t f) = absurd (m.never_both bytes p r s t)
-same_first m bytes xs ys (refused r s e) (packet q t f) = absurd (m.never_both bytes q r t s)
-same_first m bytes xs ys (refused r s e) (refused q t f) = e ∙ ap refusal_words (m.fault bytes r q s t) ∙ sym f
+same_first m bytes xs ys (packet p s e) (packet q t f) = e ∙ ap packet_words ((m.first).value bytes p q s t) ∙ sym f
+same_first m bytes xs ys (packet p s e) (refused r t f) = absurd ((m.first).never_both bytes p r s t)
+same_first m bytes xs ys (refused r s e) (packet q t f) = absurd ((m.first).never_both bytes q r t s)
+same_first m bytes xs ys (refused r s e) (refused q t f) = e ∙ ap refusal_words ((m.first).fault bytes r q s t) ∙ sym f
+
+same_second : OneMeaning → (bytes : List ℕ) (xs ys : List (List ℕ)) → ShownSecond bytes xs → ShownSecond bytes ys → xs ≡ ys
+same_second m bytes xs ys (second_packet p s e) (second_packet q t f) = e ∙ ap second_words ((m.second).value bytes p q s t) ∙ sym f
+same_second m bytes xs ys (second_packet p s e) (second_refused r t f) = absurd ((m.second).never_both bytes p r s t)
+same_second m bytes xs ys (second_refused r s e) (second_packet q t f) = absurd ((m.second).never_both bytes q r t s)
+same_second m bytes xs ys (second_refused r s e) (second_refused q t f) = e ∙ ap second_refusal_words ((m.second).fault bytes r q s t) ∙ sym f
 
 same_shown : OneMeaning → (asked : Asked) (xs ys : List (List ℕ)) → Shown asked xs → Shown asked ys → xs ≡ ys
 same_shown m (FirstLayout bytes) xs ys s t = same_first m bytes xs ys s t
+same_shown m (SecondLayout bytes) xs ys s t = same_second m bytes xs ys s t
 
 same_asked : (line : List ℕ) (a b : Asked) → IsAsked a → IsAsked b → line ≡ spelled a → line ≡ spelled b → a ≡ b
 same_asked line (FirstLayout xs) (FirstLayout ys) ha hb e f =
     ap FirstLayout (hex_text-injective xs ys ha hb (sym (behind_first line xs e) ∙ behind_first line ys f))
+same_asked line (SecondLayout xs) (SecondLayout ys) ha hb e f =
+    ap SecondLayout (hex_text-injective xs ys ha.0 hb.0 (sym (behind_second line xs e) ∙ behind_second line ys f))
+same_asked line (FirstLayout xs) (SecondLayout ys) ha hb e f = absurd (omega (arith, letter_is line (FirstLayout xs) e, letter_is line (SecondLayout ys) f))
+same_asked line (SecondLayout xs) (FirstLayout ys) ha hb e f = absurd (omega (arith, letter_is line (SecondLayout xs) e, letter_is line (FirstLayout ys) f))
 
 same_line : OneMeaning → (line x y : List ℕ) → Answers line x → Answers line y → x ≡ y
 same_line m line x y a b =

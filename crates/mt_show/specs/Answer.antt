@@ -2,26 +2,37 @@
 use Rattle.std.specs.Prelude.{◌≡◌, ℕ, ◌+◌, ◌<◌, List, [], ◌∷◌, ◌++◌, length, All, Result, Ok, Err}
 use Rattle.std.specs.List.{join_with_byte}
 use Rattle.carrier.specs.declared.first_layout.Refusal1.{Refusal1}
+use Rattle.carrier.specs.declared.second_layout.Refusal2.{Refusal2}
 use Rattle.mt_script.specs.Lines.{lines_of, ended}
 use Rattle.mt_script.specs.Meaning.{IsShort, line_limit}
 use Rattle.udp1_packets.specs.Value.{Packet}
 use Rattle.udp1_packets.specs.Layout.{Spells}
 use Rattle.udp1_packets.specs.Faults.{Refused}
+use Rattle.udp2_packets.specs.Value.{Packet as SecondPacket}
+use Rattle.udp2_packets.specs.Layout.{Spells as SpellsSecond}
+use Rattle.udp2_packets.specs.Faults.{Refused as RefusedSecond}
 use Rattle.mt_show.specs.declared.asked.Asked.{Asked}
-use Rattle.mt_show.specs.declared.asked.Asked.TheVariants.{FirstLayout}
+use Rattle.mt_show.specs.declared.asked.Asked.TheVariants.{FirstLayout, SecondLayout}
 use Rattle.mt_show.specs.declared.refusal.ShowRefusal.{ShowRefusal}
 use Rattle.mt_show.specs.declared.refusal.ShowRefusal.TheVariants.{BadLine, TooManyLines, NoMemory}
 use Rattle.mt_show.specs.Grammar.{first_word, spelled, IsAsked, Keeps, Breaks}
 use Rattle.mt_show.specs.Words.{packet_words, refusal_words}
+use Rattle.mt_show.specs.SecondWords.{second_words, second_refusal_words}
 
 -- bytes as a datagram of the first layout: the packet that they spell, or their first fault
 pub data ShownFirst (bytes : List ℕ) (words : List (List ℕ)) : Type 0 where
   packet : (p : Packet) → Spells bytes p → words ≡ packet_words p → ShownFirst bytes words
   refused : (r : Refusal1) → Refused bytes r → words ≡ refusal_words r → ShownFirst bytes words
 
+-- the same of the second layout
+pub data ShownSecond (bytes : List ℕ) (words : List (List ℕ)) : Type 0 where
+  second_packet : (p : SecondPacket) → SpellsSecond bytes p → words ≡ second_words p → ShownSecond bytes words
+  second_refused : (r : Refusal2) → RefusedSecond bytes r → words ≡ second_refusal_words r → ShownSecond bytes words
+
 -- these words are shown of what was asked for
 abbrev pub Shown : Asked → List (List ℕ) → Type 0
 Shown (FirstLayout bytes) words = ShownFirst bytes words
+Shown (SecondLayout bytes) words = ShownSecond bytes words
 
 -- A line keeps the grammar, and this is its answer: its first word and the words that are shown,
 -- with one blank between each two.

@@ -1,4 +1,5 @@
 pub mod Grammar
 pub mod Words
+pub mod SecondWords
 pub mod Answer
 pub mod Steps

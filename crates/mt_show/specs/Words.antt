@@ -86,7 +86,11 @@ abbrev pub packet_words : Packet → List (List ℕ)
 packet_words p =
     number_field (codes "ack=") p.ack ∷ number_field (codes "window=") p.window ∷ digits_field (codes "marks=") p.marks ∷ body_words p.body
 
--- a fault: its name, and its place
+-- a fault, which has a name and a place
+abbrev pub fault_words : List ℕ → ℕ → List (List ℕ)
+fault_words reason at = codes "refused" ∷ reason ∷ codes "at" ∷ decimal at ∷ []
+
+-- the name of a fault, and its place
 abbrev pub reason : Refusal1 → List ℕ
 reason (refusal.Short short) = codes "Short"
 reason (refusal.BadMtu at) = codes "BadMtu"
@@ -106,4 +110,4 @@ place (refusal.SynWithData at) = at
 place (refusal.PaddingNotZero at) = at
 
 abbrev pub refusal_words : Refusal1 → List (List ℕ)
-refusal_words r = codes "refused" ∷ reason r ∷ codes "at" ∷ decimal (place r) ∷ []
+refusal_words r = fault_words (reason r) (place r)

@@ -1,28 +1,60 @@
 //! What a line of a show file asks for.
 
-ghost use Rattle.std.specs.Prelude.{IfOk};
+ghost use Rattle.std.specs.Prelude.{◌++◌, codes, IfOk};
 ghost use Rattle.mt_show.specs.Steps.{Asks};
 
 use mt_base::NoMemory;
 use mt_script::{Text, hex_bytes};
 use std::alloc::Global;
 
+/// The most bytes of a datagram of the second layout.
+const MOST: usize = 1232;
+
 /// What is to be shown.
 #[derive(Drop)]
 pub(crate) enum Asked {
     /// `v1 HEX`: the bytes as a datagram of the first layout (MS-RDPEUDP section 2.2).
     FirstLayout { bytes: Text },
+    /// `v2 HEX`: the bytes, at most 1,232, as a datagram of the second layout (MS-RDPEUDP2 section
+    /// 2.2).
+    SecondLayout { bytes: Text },
 }
 
 /// What a line asks for, `None` where it is none of a show file.
 pub(crate) fn read_line(alloc: Global, line: &[u8]) -> Result<Option<Asked>, NoMemory>
     ensures { IfOk result (Asks line.now) }
 {
-    let Some(word) = line.strip_prefix(b"v1 ".as_slice()) else {
-        return Ok(None);
-    };
+    if let Some(word) = line.strip_prefix(b"v1 ".as_slice()) {
+        return first_layout(alloc, word);
+    }
+    if let Some(word) = line.strip_prefix(b"v2 ".as_slice()) {
+        return second_layout(alloc, word);
+    }
+    Ok(None)
+}
+
+/// What a line asks for that has this behind `v1 `.
+fn first_layout(alloc: Global, word: &[u8]) -> Result<Option<Asked>, NoMemory>
+    ensures { IfOk result (Asks (codes "v1 " ++ word.now)) }
+{
     match hex_bytes(alloc, word) {
         Ok(Some(bytes)) => Ok(Some(Asked::FirstLayout { bytes })),
+        Ok(None) => Ok(None),
+        Err(NoMemory) => Err(NoMemory),
+    }
+}
+
+/// What a line asks for that has this behind `v2 `.
+fn second_layout(alloc: Global, word: &[u8]) -> Result<Option<Asked>, NoMemory>
+    ensures { IfOk result (Asks (codes "v2 " ++ word.now)) }
+{
+    match hex_bytes(alloc, word) {
+        Ok(Some(bytes)) => {
+            if bytes.bytes().len() > MOST {
+                return Ok(None);
+            }
+            Ok(Some(Asked::SecondLayout { bytes }))
+        }
         Ok(None) => Ok(None),
         Err(NoMemory) => Err(NoMemory),
     }

@@ -7,8 +7,6 @@ ghost use Rattle.mt_show.specs.declared.refusal.ShowRefusal.{ShowRefusal};
 ghost use Rattle.mt_show.specs.Grammar.{Keeps};
 ghost use Rattle.mt_show.specs.Answer.{ShownAs};
 
-use udp1_packets::one_meaning;
-
 /// Of each text exactly one thing is printed, or there is exactly one reason why nothing is. A text
 /// of lines that keep the grammar, if not too long, is answered.
 pub fn one_output()
@@ -16,5 +14,6 @@ pub fn one_output()
     ensures one { (text : List ℕ) (a b : Result (List ℕ) ShowRefusal) → ShownAs text a → ShownAs text b → a ≡ b }
     ensures kept { (text : List ℕ) → IsShort text → All Keeps (lines_of text) → (output : List ℕ) × ShownAs text (Ok output) }
 {
-    one_meaning();
+    udp1_packets::one_meaning();
+    udp2_packets::one_meaning();
 }

@@ -32,7 +32,7 @@ impl Output {
     ghost use Rattle.byteorder.specs.Endian.{big_bytes};
     ghost use Rattle.hex.specs.Hex.{encode_lower};
     ghost use Rattle.mt_script.specs.Spelling.{hex_text};
-    ghost use Rattle.mt_show.specs.Words.{number_field, digits_field, hex_field};
+    ghost use Rattle.mt_show.specs.Words.{number_field, digits_field, hex_field, fault_words};
     ghost use Rattle.mt_show.specs.Steps.{Adds, AddsWords};
 
     /// A text with no bytes.
@@ -123,6 +123,17 @@ impl Output {
     {
         self.word(name)?;
         self.put_hex(bytes)?;
+        Ok(())
+    }
+
+    /// The words of a fault with this name, at this place.
+    pub(crate) fn fault(&mut self, reason: &[u8], at: usize) -> Result<(), NoMemory>
+        ensures { OnOk result (AddsWords (fault_words reason.now at) self.old.bytes.items self.new.bytes.items) }
+    {
+        self.word(b"refused")?;
+        self.word(reason)?;
+        self.word(b"at")?;
+        self.number(b"", at as u64)?;
         Ok(())
     }
 }

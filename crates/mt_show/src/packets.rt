@@ -209,11 +209,7 @@ fn bare(out: &mut Output, rest: &[u8]) -> Result<(), NoMemory>
 pub(crate) fn refusal(out: &mut Output, refusal: Refusal1) -> Result<(), NoMemory>
     ensures { OnOk result (AddsWords (refusal_words refusal) out.old.bytes.items out.new.bytes.items) }
 {
-    out.word(b"refused")?;
-    out.word(reason(refusal))?;
-    out.word(b"at")?;
-    out.number(b"", place(refusal) as u64)?;
-    Ok(())
+    out.fault(reason(refusal), place(refusal))
 }
 
 /// The name of a fault.

@@ -118,7 +118,7 @@ fn answers_each_line(rt: HostRuntime) -> Result<(), Fail> {
 
 #[test]
 fn refuses_other_lines(rt: HostRuntime) -> Result<(), Fail> {
-    let rows: [(&[u8], u64); 12] = [
+    let rows: [(&[u8], u64); 13] = [
         (b"\n", 1),
         (b"# a comment\n", 1),
         (b"v1\n", 1),
@@ -129,7 +129,8 @@ fn refuses_other_lines(rt: HostRuntime) -> Result<(), Fail> {
         (b"v1  00\n", 1),
         (b" v1 00\n", 1),
         (b"v1 00\r\n", 1),
-        (b"v2 00\n", 1),
+        (b"v3 00\n", 1),
+        (b"v2 0\n", 1),
         (b"v1 -\nv1 00\nplay\n\n", 3),
     ];
     for (text, line) in rows {
@@ -147,6 +148,36 @@ fn counts_lines_first(rt: HostRuntime) -> Result<(), Fail> {
     match show(rt.alloc(), &text) {
         Err(refusal) => { assert_eq!(rt; refusal, ShowRefusal::TooManyLines { limit: 4_000_000 }) }
         Ok(_) => assert!(rt; false, "a text has too many lines"),
+    }
+    Ok(())
+}
+
+#[test]
+fn shows_the_second_layout(rt: HostRuntime) -> Result<(), Fail> {
+    let rows: [(&[u8], &[u8]); 11] = [
+        (b"v2 0010603412000080", b"v2 type=0 log=6 aoa=4660\n"),
+        (
+            b"v2 41046001000100e042",
+            b"v2 type=0 log=6 number=1 part=1 bytes=4142\n",
+        ),
+        (
+            b"v2 050860050002c3e0",
+            b"v2 type=0 log=6 base=5 flags=rrrrmrmmmm\n",
+        ),
+        (b"v2 00000000000000d0", b"v2 type=8 log=0 rest=4\n"),
+        (
+            b"v2 0355a107000102e00102c8f00905f401341208000100",
+            b"v2 type=0 log=10 ack=7 delayed=2 overhead=9 delay=5,500 aoa=4660 number=8 part=1 bytes=-\n",
+        ),
+        (b"v2 00000000000000", b"v2 refused Short at 0\n"),
+        (b"v2 00096000000000e0", b"v2 refused AckAndVector at 1\n"),
+        (b"v2 00106034120000", b"v2 refused Short at 0\n"),
+        (b"v2 00046000000000a0", b"v2 refused Short at 5\n"),
+        (b"v2 0000000000000000", b"v2 refused ShortLength at 0\n"),
+        (b"v2 00000000000000e2", b"v2 refused BadType at 0\n"),
+    ];
+    for (line, answer) in rows {
+        assert_eq!(rt; show(rt.alloc(), line)?.bytes(), answer);
     }
     Ok(())
 }

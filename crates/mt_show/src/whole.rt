@@ -1,8 +1,9 @@
 //! A whole text, shown line by line.
 
-ghost use Rattle.std.specs.Prelude.{OnOk};
+ghost use Rattle.std.specs.Prelude.{◌≤◌, length, OnOk};
 ghost use Rattle.mt_script.specs.Meaning.{IsShort};
-ghost use Rattle.mt_show.specs.declared.asked.Asked.TheVariants.{FirstLayout};
+ghost use Rattle.mt_show.specs.declared.asked.Asked.TheVariants.{FirstLayout, SecondLayout};
+ghost use Rattle.mt_show.specs.Grammar.{IsAsked};
 ghost use Rattle.mt_show.specs.Answer.{Shows};
 ghost use Rattle.mt_show.specs.Steps.{AddsShown, AddsAnswer, AddsLine};
 
@@ -10,10 +11,12 @@ use crate::asked::{Asked, read_line};
 use crate::output::Output;
 use crate::packets::{packet, refusal};
 use crate::refusal::ShowRefusal;
+use crate::second::{second_packet, second_refusal};
 use mt_base::NoMemory;
 use mt_script::{LINE_LIMIT, Text, count_lines, cut_line};
 use std::alloc::Global;
 use udp1_packets::read1;
+use udp2_packets::read2;
 
 /// What is printed of a show file: for each line its answer.
 ///
@@ -65,13 +68,23 @@ fn show_line(out: &mut Output, alloc: Global, line: &[u8], number: u64) -> Resul
 
 /// Adds what is shown of what was asked for, and the end of the line.
 fn answer(out: &mut Output, asked: &Asked) -> Result<(), NoMemory>
+    requires { IsAsked asked.now }
     ensures { OnOk result (AddsAnswer asked.now out.old.bytes.items out.new.bytes.items) }
 {
-    match asked {
-        Asked::FirstLayout { bytes } => show_first(out, bytes.bytes())?,
-    }
+    shown(out, asked)?;
     out.put(b"\n")?;
     Ok(())
+}
+
+/// Adds what is shown of what was asked for.
+fn shown(out: &mut Output, asked: &Asked) -> Result<(), NoMemory>
+    requires { IsAsked asked.now }
+    ensures { OnOk result (AddsShown asked.now out.old.bytes.items out.new.bytes.items) }
+{
+    match asked {
+        Asked::FirstLayout { bytes } => show_first(out, bytes.bytes()),
+        Asked::SecondLayout { bytes } => show_second(out, bytes.bytes()),
+    }
 }
 
 /// Adds bytes as a datagram of the first layout.
@@ -82,6 +95,20 @@ fn show_first(out: &mut Output, bytes: &[u8]) -> Result<(), NoMemory>
     match read1(bytes) {
         Ok(spelled) => packet(out, spelled)?,
         Err(fault) => refusal(out, fault)?,
+    }
+    Ok(())
+}
+
+/// Adds bytes as a datagram of the second layout.
+fn show_second(out: &mut Output, bytes: &[u8]) -> Result<(), NoMemory>
+    requires { length bytes.now ≤ 1232 }
+    ensures { OnOk result (AddsShown (SecondLayout bytes.now) out.old.bytes.items out.new.bytes.items) }
+{
+    let mut scratch = [0; 1232];
+    out.put(b"v2")?;
+    match read2(bytes, &mut scratch) {
+        Ok(spelled) => second_packet(out, spelled)?,
+        Err(fault) => second_refusal(out, fault)?,
     }
     Ok(())
 }

@@ -2,10 +2,19 @@ use Rattle.mt_show.proofs.OneOutput.{some_answer, one_answer, kept_answer}
 use Rattle.mt_show.proofs.laws.one_output.Goals as goal
 
 pub returns-clause-some : goal.returns-clause-some
-returns-clause-some c = some_answer (record { value = c.one_meaning.ensures.value; fault = c.one_meaning.ensures.fault; one_of_both = c.one_meaning.ensures.one_of_both; never_both = c.one_meaning.ensures.never_both })
+returns-clause-some c = some_answer (record {
+  first = record { value = c.one_meaning.ensures.value; fault = c.one_meaning.ensures.fault; one_of_both = c.one_meaning.ensures.one_of_both; never_both = c.one_meaning.ensures.never_both };
+  second = record { value = c.one_meaning-2.ensures.value; fault = c.one_meaning-2.ensures.fault; one_of_both = (λ bytes is. c.one_meaning-2.ensures.one_of_both bytes is.0 is.1); never_both = c.one_meaning-2.ensures.never_both };
+})
 
 pub returns-clause-one : goal.returns-clause-one
-returns-clause-one c = one_answer (record { value = c.one_meaning.ensures.value; fault = c.one_meaning.ensures.fault; one_of_both = c.one_meaning.ensures.one_of_both; never_both = c.one_meaning.ensures.never_both })
+returns-clause-one c = one_answer (record {
+  first = record { value = c.one_meaning.ensures.value; fault = c.one_meaning.ensures.fault; one_of_both = c.one_meaning.ensures.one_of_both; never_both = c.one_meaning.ensures.never_both };
+  second = record { value = c.one_meaning-2.ensures.value; fault = c.one_meaning-2.ensures.fault; one_of_both = (λ bytes is. c.one_meaning-2.ensures.one_of_both bytes is.0 is.1); never_both = c.one_meaning-2.ensures.never_both };
+})
 
 pub returns-clause-kept : goal.returns-clause-kept
-returns-clause-kept c = kept_answer (record { value = c.one_meaning.ensures.value; fault = c.one_meaning.ensures.fault; one_of_both = c.one_meaning.ensures.one_of_both; never_both = c.one_meaning.ensures.never_both })
+returns-clause-kept c = kept_answer (record {
+  first = record { value = c.one_meaning.ensures.value; fault = c.one_meaning.ensures.fault; one_of_both = c.one_meaning.ensures.one_of_both; never_both = c.one_meaning.ensures.never_both };
+  second = record { value = c.one_meaning-2.ensures.value; fault = c.one_meaning-2.ensures.fault; one_of_both = (λ bytes is. c.one_meaning-2.ensures.one_of_both bytes is.0 is.1); never_both = c.one_meaning-2.ensures.never_both };
+})
