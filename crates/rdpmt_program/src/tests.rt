@@ -142,7 +142,7 @@ fn knows_its_words(rt: HostRuntime) -> Result<(), Fail> {
 
 #[test]
 fn shows_datagrams(rt: HostRuntime) -> Result<(), Fail> {
-    let rows: [(&[u8], &str); 7] = [
+    let rows: [(&[u8], &str); 9] = [
         (b"", ""),
         (
             b"v1 000000020040000400010200",
@@ -168,6 +168,11 @@ fn shows_datagrams(rt: HostRuntime) -> Result<(), Fail> {
             b"v1 000000010040001800000003000000020504ffff0aff",
             "v1 ack=1 window=64 marks=0000 fec coded=3 start=2 range=5 index=4 bytes=0aff\n",
         ),
+        (
+            b"v2 050860050002c3e0\n",
+            "v2 type=0 log=6 base=5 flags=rrrrmrmmmm\n",
+        ),
+        (b"v2 00106034120000\n", "v2 refused Short at 0\n"),
     ];
     for (text, output) in rows {
         let (status, out) = call(rt.alloc(), &["show", "s"], text, &[], &[])?;
@@ -196,7 +201,7 @@ fn shows_an_opening_of_a_whole_datagram(rt: HostRuntime) -> Result<(), Fail> {
 fn refuses_lines_of_show_files(rt: HostRuntime) -> Result<(), Fail> {
     let rows: [(&[u8], u8, &str); 5] = [
         (b"\n", 2, "refused line 1 BadLine\n"),
-        (b"v2 00\n", 2, "refused line 1 BadLine\n"),
+        (b"v3 00\n", 2, "refused line 1 BadLine\n"),
         (b"v1 0A\n", 2, "refused line 1 BadLine\n"),
         (b"v1 -\nv1 00\n# no\nv1\n", 2, "refused line 3 BadLine\n"),
         (b"v1 -\n", 0, "v1 refused Short at 0\n"),
