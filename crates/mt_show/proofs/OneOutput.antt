@@ -18,16 +18,22 @@ use Rattle.udp1_packets.specs.Faults.{Refused}
 use Rattle.udp2_packets.specs.Value.{Packet as SecondPacket}
 use Rattle.udp2_packets.specs.Layout.{Spells as SpellsSecond}
 use Rattle.udp2_packets.specs.Faults.{Refused as RefusedSecond}
+use Rattle.tunnel_pdus.specs.declared.part.Part.{Part}
+use Rattle.tunnel_pdus.specs.Layout.{Spells as SpellsPdu, SpellsFrame}
+use Rattle.tunnel_pdus.specs.Faults.{Refused as RefusedPdu, RefusedFrame}
+use Rattle.tunnel_pdus.specs.Streams.{Front}
+use Rattle.tunnel_pdus.specs.Reading.{reading, frame_reading}
 use Rattle.mt_show.specs.declared.asked.Asked.{Asked}
-use Rattle.mt_show.specs.declared.asked.Asked.TheVariants.{FirstLayout, SecondLayout}
+use Rattle.mt_show.specs.declared.asked.Asked.TheVariants.{FirstLayout, SecondLayout, Tunnel, MainStream}
 use Rattle.mt_show.specs.declared.refusal.ShowRefusal.{ShowRefusal}
 use Rattle.mt_show.specs.declared.refusal.ShowRefusal.TheVariants.{BadLine, TooManyLines, NoMemory}
 use Rattle.mt_show.specs.Grammar.{first_word, spelled, IsAsked, Keeps, Breaks}
 use Rattle.mt_show.specs.Words.{packet_words, refusal_words}
 use Rattle.mt_show.specs.SecondWords.{second_words, second_refusal_words}
+use Rattle.mt_show.specs.StreamWords.{pdu_words, frame_words, front_words}
 use Rattle.mt_show.specs.Answer.{ShownFirst, packet, refused, ShownSecond, second_packet, second_refused, Shown, Answers, AreAnswered, FirstBroken, ShownAs}
 use Rattle.mt_show.proofs.Lines.{kept_before}
-use Rattle.mt_show.proofs.FirstWords.{behind_first, behind_second, letter_is, in_parts, no_kind, no_first, no_second, long_second}
+use Rattle.mt_show.proofs.FirstWords.{behind_first, behind_second, behind_tunnel, behind_frame, letter_is, in_parts, no_kind, no_first, no_second, no_tunnel, no_frame, long_second}
 
 -- ---- a line keeps the grammar or breaks it
 
@@ -48,8 +54,26 @@ tell_second line start (inl word) =
     ]
 tell_second line start (inr none) = inr (no_second line start (λ bytes is. none bytes is.0))
 
+tell_tunnel : (line : List ℕ) → take 7 line ≡ codes "tunnel " → Told {A = List ℕ} IsBytes hex_text (drop 7 line) → Keeps line ⊎ Breaks line
+tell_tunnel line start (inl word) = inl (Tunnel word.0, word.1, in_parts line (codes "tunnel ") (hex_text word.0) start word.2)
+tell_tunnel line start (inr none) = inr (no_tunnel line start none)
+
+tell_frame : (line : List ℕ) → take 6 line ≡ codes "frame " → Told {A = List ℕ} IsBytes hex_text (drop 6 line) → Keeps line ⊎ Breaks line
+tell_frame line start (inl word) = inl (MainStream word.0, word.1, in_parts line (codes "frame ") (hex_text word.0) start word.2)
+tell_frame line start (inr none) = inr (no_frame line start none)
+
 begins : (n : ℕ) (line start : List ℕ) → (take n line ≡ start) ⊎ (take n line ≢ start)
 begins n line start = told (bytes_eq (take n line) start) (bytes_eq-Decides (take n line) start)
+
+tell_stream : (line : List ℕ) → take 3 line ≢ codes "v1 " → take 3 line ≢ codes "v2 " → Keeps line ⊎ Breaks line
+tell_stream line a b =
+    elim (begins 7 line (codes "tunnel ")) [
+      | inl start ↦ tell_tunnel line start (tell_bytes (drop 7 line))
+      | inr c ↦ elim (begins 6 line (codes "frame ")) [
+        | inl start ↦ tell_frame line start (tell_bytes (drop 6 line))
+        | inr d ↦ inr (no_kind line a b c d)
+      ]
+    ]
 
 tell_line : (line : List ℕ) → Keeps line ⊎ Breaks line
 tell_line line =
@@ -57,7 +81,7 @@ tell_line line =
       | inl start ↦ tell_first line start (tell_bytes (drop 3 line))
       | inr a ↦ elim (begins 3 line (codes "v2 ")) [
         | inl start ↦ tell_second line start (tell_bytes (drop 3 line))
-        | inr b ↦ inr (no_kind line a b)
+        | inr b ↦ tell_stream line a b
       ]
     ]
 
@@ -100,10 +124,17 @@ pub record Layout {V R : Type 0} (Fits : List ℕ → Type 0) (Spells : List ℕ
   pub one_of_both : (bytes : List ℕ) → Fits bytes → ((p : V) × Spells bytes p) ⊎ ((r : R) × Refused bytes r)
   pub never_both : (bytes : List ℕ) (p : V) (r : R) → Spells bytes p → Refused bytes r → ⊥
 
+-- what a layout of streams says of bytes: one front, which `reading` gives
+pub record Stream {V R : Type 0} (Spells : List ℕ → V → Type 0) (Refused : List ℕ → R → Type 0) (reading : List ℕ → Result (Part V) R) : Type 0 where
+  pub read : (bytes : List ℕ) → IsBytes bytes → Front Spells Refused bytes (reading bytes)
+  pub one : (bytes : List ℕ) (a b : Result (Part V) R) → IsBytes bytes → Front Spells Refused bytes a → Front Spells Refused bytes b → a ≡ b
+
 -- what is known of the layouts
 pub record OneMeaning : Type 0 where
   pub first : Layout IsBytes Spells Refused
   pub second : Layout (λ bytes. IsBytes bytes × (length bytes ≤ 1232)) SpellsSecond RefusedSecond
+  pub tunnel : Stream SpellsPdu RefusedPdu reading
+  pub frame : Stream SpellsFrame RefusedFrame frame_reading
 
 by_first : (bytes : List ℕ) → ((p : Packet) × Spells bytes p) ⊎ ((r : Refusal1) × Refused bytes r) → (words : List (List ℕ)) × ShownFirst bytes words
 by_first bytes (inl p) = (packet_words p.0, packet p.0 p.1 refl)
@@ -116,6 +147,8 @@ by_second bytes (inr r) = (second_refusal_words r.0, second_refused r.0 r.1 refl
 some_words : OneMeaning → (asked : Asked) → IsAsked asked → (words : List (List ℕ)) × Shown asked words
 some_words m (FirstLayout bytes) is = by_first bytes ((m.first).one_of_both bytes is)
 some_words m (SecondLayout bytes) is = by_second bytes ((m.second).one_of_both bytes is)
+some_words m (Tunnel bytes) is = (front_words pdu_words (length bytes) (reading bytes), (reading bytes, (m.tunnel).read bytes is, refl))
+some_words m (MainStream bytes) is = (front_words frame_words (length bytes) (frame_reading bytes), (frame_reading bytes, (m.frame).read bytes is, refl))
 
 line_answer : OneMeaning → (line : List ℕ) → Keeps line → (answer : List ℕ) × Answers line answer
 line_answer m line keeps =
@@ -141,22 +174,38 @@ same_second m bytes xs ys (second_packet p s e) (second_refused r t f) = absurd 
 same_second m bytes xs ys (second_refused r s e) (second_packet q t f) = absurd ((m.second).never_both bytes q r t s)
 same_second m bytes xs ys (second_refused r s e) (second_refused q t f) = e ∙ ap second_refusal_words ((m.second).fault bytes r q s t) ∙ sym f
 
-same_shown : OneMeaning → (asked : Asked) (xs ys : List (List ℕ)) → Shown asked xs → Shown asked ys → xs ≡ ys
-same_shown m (FirstLayout bytes) xs ys s t = same_first m bytes xs ys s t
-same_shown m (SecondLayout bytes) xs ys s t = same_second m bytes xs ys s t
+same_shown : OneMeaning → (asked : Asked) → IsAsked asked → (xs ys : List (List ℕ)) → Shown asked xs → Shown asked ys → xs ≡ ys
+same_shown m (FirstLayout bytes) is xs ys s t = same_first m bytes xs ys s t
+same_shown m (SecondLayout bytes) is xs ys s t = same_second m bytes xs ys s t
+same_shown m (Tunnel bytes) is xs ys s t = s.2 ∙ ap (front_words pdu_words (length bytes)) ((m.tunnel).one bytes s.0 t.0 is s.1 t.1) ∙ sym t.2
+same_shown m (MainStream bytes) is xs ys s t = s.2 ∙ ap (front_words frame_words (length bytes)) ((m.frame).one bytes s.0 t.0 is s.1 t.1) ∙ sym t.2
 
 same_asked : (line : List ℕ) (a b : Asked) → IsAsked a → IsAsked b → line ≡ spelled a → line ≡ spelled b → a ≡ b
 same_asked line (FirstLayout xs) (FirstLayout ys) ha hb e f =
     ap FirstLayout (hex_text-injective xs ys ha hb (sym (behind_first line xs e) ∙ behind_first line ys f))
+same_asked line (FirstLayout xs) (SecondLayout ys) ha hb e f = absurd (omega (arith, letter_is line (FirstLayout xs) e, letter_is line (SecondLayout ys) f))
+same_asked line (FirstLayout xs) (Tunnel ys) ha hb e f = absurd (omega (arith, letter_is line (FirstLayout xs) e, letter_is line (Tunnel ys) f))
+same_asked line (FirstLayout xs) (MainStream ys) ha hb e f = absurd (omega (arith, letter_is line (FirstLayout xs) e, letter_is line (MainStream ys) f))
+same_asked line (SecondLayout xs) (FirstLayout ys) ha hb e f = absurd (omega (arith, letter_is line (SecondLayout xs) e, letter_is line (FirstLayout ys) f))
 same_asked line (SecondLayout xs) (SecondLayout ys) ha hb e f =
     ap SecondLayout (hex_text-injective xs ys ha.0 hb.0 (sym (behind_second line xs e) ∙ behind_second line ys f))
-same_asked line (FirstLayout xs) (SecondLayout ys) ha hb e f = absurd (omega (arith, letter_is line (FirstLayout xs) e, letter_is line (SecondLayout ys) f))
-same_asked line (SecondLayout xs) (FirstLayout ys) ha hb e f = absurd (omega (arith, letter_is line (SecondLayout xs) e, letter_is line (FirstLayout ys) f))
+same_asked line (SecondLayout xs) (Tunnel ys) ha hb e f = absurd (omega (arith, letter_is line (SecondLayout xs) e, letter_is line (Tunnel ys) f))
+same_asked line (SecondLayout xs) (MainStream ys) ha hb e f = absurd (omega (arith, letter_is line (SecondLayout xs) e, letter_is line (MainStream ys) f))
+same_asked line (Tunnel xs) (FirstLayout ys) ha hb e f = absurd (omega (arith, letter_is line (Tunnel xs) e, letter_is line (FirstLayout ys) f))
+same_asked line (Tunnel xs) (SecondLayout ys) ha hb e f = absurd (omega (arith, letter_is line (Tunnel xs) e, letter_is line (SecondLayout ys) f))
+same_asked line (Tunnel xs) (Tunnel ys) ha hb e f =
+    ap Tunnel (hex_text-injective xs ys ha hb (sym (behind_tunnel line xs e) ∙ behind_tunnel line ys f))
+same_asked line (Tunnel xs) (MainStream ys) ha hb e f = absurd (omega (arith, letter_is line (Tunnel xs) e, letter_is line (MainStream ys) f))
+same_asked line (MainStream xs) (FirstLayout ys) ha hb e f = absurd (omega (arith, letter_is line (MainStream xs) e, letter_is line (FirstLayout ys) f))
+same_asked line (MainStream xs) (SecondLayout ys) ha hb e f = absurd (omega (arith, letter_is line (MainStream xs) e, letter_is line (SecondLayout ys) f))
+same_asked line (MainStream xs) (Tunnel ys) ha hb e f = absurd (omega (arith, letter_is line (MainStream xs) e, letter_is line (Tunnel ys) f))
+same_asked line (MainStream xs) (MainStream ys) ha hb e f =
+    ap MainStream (hex_text-injective xs ys ha hb (sym (behind_frame line xs e) ∙ behind_frame line ys f))
 
 same_line : OneMeaning → (line x y : List ℕ) → Answers line x → Answers line y → x ≡ y
 same_line m line x y a b =
     let asked = same_asked line a.asked b.asked a.is_asked b.is_asked a.line_is b.line_is in
-    let words = same_shown m b.asked a.words b.words (subst (λ k. Shown k a.words) asked a.shown) b.shown in
+    let words = same_shown m b.asked b.is_asked a.words b.words (subst (λ k. Shown k a.words) asked a.shown) b.shown in
     a.answer_is ∙ ap (λ k. join_with_byte 32 (first_word k ∷ a.words)) asked ∙ ap (λ w. join_with_byte 32 (first_word b.asked ∷ w)) words ∙ sym b.answer_is
 
 same_lines : OneMeaning → (lines xs ys : List (List ℕ)) → AreAnswered lines xs → AreAnswered lines ys → xs ≡ ys

@@ -11,13 +11,20 @@ use Rattle.udp1_packets.specs.Faults.{Refused}
 use Rattle.udp2_packets.specs.Value.{Packet as SecondPacket}
 use Rattle.udp2_packets.specs.Layout.{Spells as SpellsSecond}
 use Rattle.udp2_packets.specs.Faults.{Refused as RefusedSecond}
+use Rattle.tunnel_pdus.specs.declared.part.Part.{Part}
+use Rattle.tunnel_pdus.specs.declared.part.TunnelRefusal.{TunnelRefusal}
+use Rattle.tunnel_pdus.specs.Value.{Pdu, Frame}
+use Rattle.tunnel_pdus.specs.Layout.{Spells as SpellsPdu, SpellsFrame}
+use Rattle.tunnel_pdus.specs.Faults.{Refused as RefusedPdu, RefusedFrame}
+use Rattle.tunnel_pdus.specs.Streams.{Front}
 use Rattle.mt_show.specs.declared.asked.Asked.{Asked}
-use Rattle.mt_show.specs.declared.asked.Asked.TheVariants.{FirstLayout, SecondLayout}
+use Rattle.mt_show.specs.declared.asked.Asked.TheVariants.{FirstLayout, SecondLayout, Tunnel, MainStream}
 use Rattle.mt_show.specs.declared.refusal.ShowRefusal.{ShowRefusal}
 use Rattle.mt_show.specs.declared.refusal.ShowRefusal.TheVariants.{BadLine, TooManyLines, NoMemory}
 use Rattle.mt_show.specs.Grammar.{first_word, spelled, IsAsked, Keeps, Breaks}
 use Rattle.mt_show.specs.Words.{packet_words, refusal_words}
 use Rattle.mt_show.specs.SecondWords.{second_words, second_refusal_words}
+use Rattle.mt_show.specs.StreamWords.{pdu_words, frame_words, front_words}
 
 -- bytes as a datagram of the first layout: the packet that they spell, or their first fault
 pub data ShownFirst (bytes : List ℕ) (words : List (List ℕ)) : Type 0 where
@@ -29,10 +36,21 @@ pub data ShownSecond (bytes : List ℕ) (words : List (List ℕ)) : Type 0 where
   second_packet : (p : SecondPacket) → SpellsSecond bytes p → words ≡ second_words p → ShownSecond bytes words
   second_refused : (r : Refusal2) → RefusedSecond bytes r → words ≡ second_refusal_words r → ShownSecond bytes words
 
+-- bytes as what the stream of a tunnel begins with, or the main stream
+abbrev pub ShownTunnel : List ℕ → List (List ℕ) → Type 0
+ShownTunnel bytes words =
+    (front : Result (Part Pdu) TunnelRefusal) × Front SpellsPdu RefusedPdu bytes front × (words ≡ front_words pdu_words (length bytes) front)
+
+abbrev pub ShownFrame : List ℕ → List (List ℕ) → Type 0
+ShownFrame bytes words =
+    (front : Result (Part Frame) TunnelRefusal) × Front SpellsFrame RefusedFrame bytes front × (words ≡ front_words frame_words (length bytes) front)
+
 -- these words are shown of what was asked for
 abbrev pub Shown : Asked → List (List ℕ) → Type 0
 Shown (FirstLayout bytes) words = ShownFirst bytes words
 Shown (SecondLayout bytes) words = ShownSecond bytes words
+Shown (Tunnel bytes) words = ShownTunnel bytes words
+Shown (MainStream bytes) words = ShownFrame bytes words
 
 -- A line keeps the grammar, and this is its answer: its first word and the words that are shown,
 -- with one blank between each two.

@@ -1,5 +1,6 @@
 pub mod Grammar
 pub mod Words
 pub mod SecondWords
+pub mod StreamWords
 pub mod Answer
 pub mod Steps

@@ -11,12 +11,16 @@ use Rattle.carrier.specs.declared.first_layout.Refusal1.{Refusal1}
 use Rattle.carrier.specs.declared.first_layout.Refusal1.TheVariants as refusal
 use Rattle.udp1_packets.specs.Value.{Extended, Syn, Body, SynBody, DataBody, FecBody, BareBody, Packet}
 
--- a field: its name, and its number, its number of two bytes in four digits, or its bytes
+-- a field: its name, and its number, its number of two or of four bytes in so many pairs of
+-- digits, or its bytes
 abbrev pub number_field : List ℕ → ℕ → List ℕ
 number_field name n = name ++ decimal n
 
 abbrev pub digits_field : List ℕ → ℕ → List ℕ
 digits_field name n = name ++ encode_lower (big_bytes 2 n)
+
+abbrev pub wide_field : List ℕ → ℕ → List ℕ
+wide_field name n = name ++ encode_lower (big_bytes 4 n)
 
 abbrev pub hex_field : List ℕ → List ℕ → List ℕ
 hex_field name bytes = name ++ hex_text bytes

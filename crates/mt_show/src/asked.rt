@@ -18,6 +18,10 @@ pub(crate) enum Asked {
     /// `v2 HEX`: the bytes, at most 1,232, as a datagram of the second layout (MS-RDPEUDP2 section
     /// 2.2).
     SecondLayout { bytes: Text },
+    /// `tunnel HEX`: the bytes as the front of a tunnel's stream (MS-RDPEMT section 2.2).
+    Tunnel { bytes: Text },
+    /// `frame HEX`: the bytes as the front of the main stream.
+    MainStream { bytes: Text },
 }
 
 /// What a line asks for, `None` where it is none of a show file.
@@ -29,6 +33,12 @@ pub(crate) fn read_line(alloc: Global, line: &[u8]) -> Result<Option<Asked>, NoM
     }
     if let Some(word) = line.strip_prefix(b"v2 ".as_slice()) {
         return second_layout(alloc, word);
+    }
+    if let Some(word) = line.strip_prefix(b"tunnel ".as_slice()) {
+        return tunnel(alloc, word);
+    }
+    if let Some(word) = line.strip_prefix(b"frame ".as_slice()) {
+        return main_stream(alloc, word);
     }
     Ok(None)
 }
@@ -55,6 +65,28 @@ fn second_layout(alloc: Global, word: &[u8]) -> Result<Option<Asked>, NoMemory>
             }
             Ok(Some(Asked::SecondLayout { bytes }))
         }
+        Ok(None) => Ok(None),
+        Err(NoMemory) => Err(NoMemory),
+    }
+}
+
+/// What a line asks for that has this behind `tunnel `.
+fn tunnel(alloc: Global, word: &[u8]) -> Result<Option<Asked>, NoMemory>
+    ensures { IfOk result (Asks (codes "tunnel " ++ word.now)) }
+{
+    match hex_bytes(alloc, word) {
+        Ok(Some(bytes)) => Ok(Some(Asked::Tunnel { bytes })),
+        Ok(None) => Ok(None),
+        Err(NoMemory) => Err(NoMemory),
+    }
+}
+
+/// What a line asks for that has this behind `frame `.
+fn main_stream(alloc: Global, word: &[u8]) -> Result<Option<Asked>, NoMemory>
+    ensures { IfOk result (Asks (codes "frame " ++ word.now)) }
+{
+    match hex_bytes(alloc, word) {
+        Ok(Some(bytes)) => Ok(Some(Asked::MainStream { bytes })),
         Ok(None) => Ok(None),
         Err(NoMemory) => Err(NoMemory),
     }

@@ -7,6 +7,8 @@ ghost use Rattle.mt_show.specs.declared.refusal.ShowRefusal.{ShowRefusal};
 ghost use Rattle.mt_show.specs.Grammar.{Keeps};
 ghost use Rattle.mt_show.specs.Answer.{ShownAs};
 
+use tunnel_pdus::{frame_meaning, tunnel_meaning};
+
 /// Of each text exactly one thing is printed, or there is exactly one reason why nothing is. A text
 /// of lines that keep the grammar, if not too long, is answered.
 pub fn one_output()
@@ -16,4 +18,6 @@ pub fn one_output()
 {
     udp1_packets::one_meaning();
     udp2_packets::one_meaning();
+    tunnel_meaning();
+    frame_meaning();
 }

@@ -32,7 +32,7 @@ impl Output {
     ghost use Rattle.byteorder.specs.Endian.{big_bytes};
     ghost use Rattle.hex.specs.Hex.{encode_lower};
     ghost use Rattle.mt_script.specs.Spelling.{hex_text};
-    ghost use Rattle.mt_show.specs.Words.{number_field, digits_field, hex_field, fault_words};
+    ghost use Rattle.mt_show.specs.Words.{number_field, digits_field, wide_field, hex_field, fault_words};
     ghost use Rattle.mt_show.specs.Steps.{Adds, AddsWords};
 
     /// A text with no bytes.
@@ -112,6 +112,17 @@ impl Output {
     {
         let mut bytes = [0; 2];
         BigEndian::write_u16(&mut bytes, number);
+        self.word(name)?;
+        self.put_pairs(&bytes)?;
+        Ok(())
+    }
+
+    /// A field with a number of four bytes, in eight digits.
+    pub(crate) fn wide_digits(&mut self, name: &[u8], number: u32) -> Result<(), NoMemory>
+        ensures { OnOk result (AddsWords (wide_field name.now number ∷ []) self.old.bytes.items self.new.bytes.items) }
+    {
+        let mut bytes = [0; 4];
+        BigEndian::write_u32(&mut bytes, number);
         self.word(name)?;
         self.put_pairs(&bytes)?;
         Ok(())

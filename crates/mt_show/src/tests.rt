@@ -181,3 +181,37 @@ fn shows_the_second_layout(rt: HostRuntime) -> Result<(), Fail> {
     }
     Ok(())
 }
+
+#[test]
+fn shows_streams(rt: HostRuntime) -> Result<(), Fail> {
+    let rows: [(&[u8], &[u8]); 12] = [
+        (b"tunnel 010400", b"tunnel more 4\n"),
+        (b"tunnel -", b"tunnel more 1\n"),
+        (b"tunnel 0104000405000780", b"tunnel answer hr=80070005\n"),
+        (
+            b"tunnel 001800040700000000000000ffffffffffffffffffffffffffffffff",
+            b"tunnel create id=7 cookie=ffffffffffffffffffffffffffffffff\n",
+        ),
+        (b"tunnel 0200000402", b"tunnel data bytes=- then 1\n"),
+        (b"tunnel 03", b"tunnel refused BadAction at 0\n"),
+        (b"frame 0301003041", b"frame channel bytes=30 then 1\n"),
+        (b"frame 04", b"frame refused BadKind at 0\n"),
+        (b"frame 030100", b"frame more 4\n"),
+        (
+            b"frame 0118000700000002000000000102030405060708090a0b0c0d0e0f",
+            b"frame request id=7 kind=lossy cookie=000102030405060708090a0b0c0d0e0f\n",
+        ),
+        (
+            b"frame 0208000700000005000780",
+            b"frame response id=7 hr=80070005\n",
+        ),
+        (
+            b"frame 01180007000000030000",
+            b"frame refused BadProtocol at 7\n",
+        ),
+    ];
+    for (line, answer) in rows {
+        assert_eq!(rt; show(rt.alloc(), line)?.bytes(), answer);
+    }
+    Ok(())
+}

@@ -2,7 +2,7 @@
 
 ghost use Rattle.std.specs.Prelude.{◌≤◌, length, OnOk};
 ghost use Rattle.mt_script.specs.Meaning.{IsShort};
-ghost use Rattle.mt_show.specs.declared.asked.Asked.TheVariants.{FirstLayout, SecondLayout};
+ghost use Rattle.mt_show.specs.declared.asked.Asked.TheVariants.{FirstLayout, SecondLayout, Tunnel, MainStream};
 ghost use Rattle.mt_show.specs.Grammar.{IsAsked};
 ghost use Rattle.mt_show.specs.Answer.{Shows};
 ghost use Rattle.mt_show.specs.Steps.{AddsShown, AddsAnswer, AddsLine};
@@ -12,16 +12,18 @@ use crate::output::Output;
 use crate::packets::{packet, refusal};
 use crate::refusal::ShowRefusal;
 use crate::second::{second_packet, second_refusal};
+use crate::streams::{frame_front, tunnel_front};
 use mt_base::NoMemory;
 use mt_script::{LINE_LIMIT, Text, count_lines, cut_line};
 use std::alloc::Global;
+use tunnel_pdus::{read_frame, read_tunnel};
 use udp1_packets::read1;
 use udp2_packets::read2;
 
 /// What is printed of a show file: for each line its answer.
 ///
 /// A text of more than 4,000,000 lines is refused before a line is read; else the first line that
-/// is none of a show file is. Bytes that are no packet are no reason to refuse: their line is
+/// is none of a show file is. Bytes that are no value are no reason to refuse: their line is
 /// answered by their first fault.
 pub fn show(alloc: Global, bytes: &[u8]) -> Result<Text, ShowRefusal>
     ensures { Shows bytes.now result }
@@ -84,6 +86,8 @@ fn shown(out: &mut Output, asked: &Asked) -> Result<(), NoMemory>
     match asked {
         Asked::FirstLayout { bytes } => show_first(out, bytes.bytes()),
         Asked::SecondLayout { bytes } => show_second(out, bytes.bytes()),
+        Asked::Tunnel { bytes } => show_tunnel(out, bytes.bytes()),
+        Asked::MainStream { bytes } => show_frame(out, bytes.bytes()),
     }
 }
 
@@ -110,5 +114,23 @@ fn show_second(out: &mut Output, bytes: &[u8]) -> Result<(), NoMemory>
         Ok(spelled) => second_packet(out, spelled)?,
         Err(fault) => second_refusal(out, fault)?,
     }
+    Ok(())
+}
+
+/// Adds bytes as what a tunnel's stream begins with.
+fn show_tunnel(out: &mut Output, bytes: &[u8]) -> Result<(), NoMemory>
+    ensures { OnOk result (AddsShown (Tunnel bytes.now) out.old.bytes.items out.new.bytes.items) }
+{
+    out.put(b"tunnel")?;
+    tunnel_front(out, bytes.len(), read_tunnel(bytes))?;
+    Ok(())
+}
+
+/// Adds bytes as what the main stream begins with.
+fn show_frame(out: &mut Output, bytes: &[u8]) -> Result<(), NoMemory>
+    ensures { OnOk result (AddsShown (MainStream bytes.now) out.old.bytes.items out.new.bytes.items) }
+{
+    out.put(b"frame")?;
+    frame_front(out, bytes.len(), read_frame(bytes))?;
     Ok(())
 }
