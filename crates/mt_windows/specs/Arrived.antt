@@ -1,5 +1,5 @@
 -- Parts that arrive in any order: which are accepted, and which of their bytes are in order.
-use Rattle.std.specs.Prelude.{ℕ, zero, suc, ◌+◌, ◌-◌, List, [], ◌∷◌, ◌++◌, length, get_or, nat_lt, nat_le, if◌then◌else◌, Bool, true, false, Option, Some, None, is_some, option_map}
+use Rattle.std.specs.Prelude.{ℕ, zero, suc, ◌+◌, ◌-◌, List, [], ◌∷◌, ◌++◌, length, get_or, nat_lt, nat_le, if◌then◌else◌, Bool, false, Option, Some, None, is_some}
 use Rattle.mt_windows.specs.declared.receive.Accept.{Accept}
 use Rattle.mt_windows.specs.declared.receive.Accept.TheVariants.{New, Again, Beyond}
 

@@ -1,5 +1,5 @@
 -- What a send window stands for.
-use Rattle.std.specs.Prelude.{◌≡◌, ℕ, ◌+◌, ◌-◌, ◌<◌, ◌≤◌, ◌^◌, ◌⊎◌, Bool, true, false, ◌&&◌, nat_lt, nat_le, max, min, if◌then◌else◌, List, [], ◌∷◌, ◌++◌, length, take, drop, get_or, slice_set as set, Option, Some, None, IsSome, is_some, unwrap_or}
+use Rattle.std.specs.Prelude.{◌≡◌, ℕ, ◌+◌, ◌-◌, ◌<◌, ◌≤◌, ◌^◌, ◌⊎◌, Bool, true, false, ◌&&◌, nat_lt, nat_le, min, if◌then◌else◌, List, ◌++◌, length, take, drop, get_or, slice_set as set, Option, Some, None, IsSome, is_some}
 use Rattle.mt_base.specs.Trace.{Trace}
 use Rattle.mt_windows.specs.declared.flight.Flight.{Flight}
 use Rattle.mt_windows.specs.FlightView.{flight_at, slot_at, bytes_in}

@@ -164,3 +164,48 @@ fn a_sender_full(rt: HostRuntime) -> Result<(), Fail> {
     queued_or_settled();
     Ok(())
 }
+
+#[test]
+fn a_transmission_too_old(rt: HostRuntime) -> Result<(), Fail> {
+    let mut window = SendWindow::new(rt.alloc(), 1)?;
+    let mut out = [0; 1000];
+    assert_eq!(rt; window.give(&[7; 1_001]), Ok(()));
+    for _ in 0..2 {
+        let _ = cut_next(&mut window, 64, &mut out);
+    }
+    assert!(rt; window.tell_transmission(2));
+    for _ in 0..SPAN {
+        let _ = resend_lowest(&mut window, &mut out);
+    }
+    assert_eq!(rt; resend_lowest(&mut window, &mut out), None);
+    assert_eq!(rt; (window.made(), window.reach()), (4_098, 4_096));
+    assert_eq!(rt; window.floor_transmission(), 3);
+    assert!(rt; !window.tell_transmission(1) && !window.tell_transmission(2));
+    assert_eq!(rt; window.lowest(), Some(1));
+    assert!(rt; window.tell_transmission(3));
+    assert_eq!(rt; (window.lowest(), window.reach()), (None, 4_095));
+    Ok(())
+}
+
+#[test]
+fn parts_in_flight_fill_the_window(rt: HostRuntime) -> Result<(), Fail> {
+    let mut window = SendWindow::new(rt.alloc(), 1)?;
+    let mut out = [0; 1000];
+    let bytes = vec![in rt.alloc(); 5; 65_000]?;
+    assert_eq!(rt; window.give(bytes.as_slice()), Ok(()));
+    for _ in 0..64 {
+        let _ = cut_next(&mut window, 100, &mut out);
+    }
+    assert_eq!(rt; window.last_cut(), 64);
+    assert_eq!(rt; cut_next(&mut window, 100, &mut out), None);
+    assert!(rt; window.tell_part(2));
+    assert_eq!(rt; cut_next(&mut window, 100, &mut out), None);
+    assert!(rt; window.tell_part(1));
+    let sent = Sent {
+        part: 65,
+        transmission: 65,
+        length: 1_000,
+    };
+    assert_eq!(rt; cut_next(&mut window, 100, &mut out), Some(sent));
+    Ok(())
+}

@@ -1,4 +1,4 @@
-use Rattle.mt_windows.proofs.InFlight.{pieces_and_rest}
+use Rattle.mt_windows.proofs.Pieces.{pieces_and_rest}
 use Rattle.mt_windows.proofs.laws.parts_are_pieces.Goals as goal
 
 pub returns : goal.returns

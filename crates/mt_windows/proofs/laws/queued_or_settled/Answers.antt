@@ -1,4 +1,4 @@
-use Rattle.mt_windows.proofs.InFlight.{all_bytes}
+use Rattle.mt_windows.proofs.Pieces.{all_bytes}
 use Rattle.mt_windows.proofs.laws.queued_or_settled.Goals as goal
 
 pub returns : goal.returns

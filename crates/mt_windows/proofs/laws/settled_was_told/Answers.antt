@@ -1,4 +1,4 @@
-use Rattle.mt_windows.proofs.InFlight.{told_settled}
+use Rattle.mt_windows.proofs.Pieces.{told_settled}
 use Rattle.mt_windows.proofs.laws.settled_was_told.Goals as goal
 
 pub returns : goal.returns

@@ -1,4 +1,4 @@
-use Rattle.std.proofs.Common.{◌≡◌, ◌+◌, ℕ, List, [], ◌∷◌, ◌++◌, Option, None, replicate, cond, ap, ◌∙◌, arith}
+use Rattle.std.proofs.Common.{◌≡◌, ◌+◌, ℕ, List, [], ◌∷◌, ◌++◌, Option, None, replicate, ap, ◌∙◌, arith}
 use Rattle.std.proofs.lemmas.List.{replicate_more}
 use Rattle.mt_windows.proofs.slot.empty_slots.Goals as goal
 

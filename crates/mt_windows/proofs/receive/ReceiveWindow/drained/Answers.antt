@@ -1,4 +1,4 @@
-use Rattle.std.proofs.Common.{◌≡◌, ◌+◌, ap, ◌∙◌}
+use Rattle.std.proofs.Common.{◌+◌, ap, ◌∙◌}
 use Rattle.mt_windows.proofs.Order.{receives_next}
 use Rattle.mt_windows.proofs.receive.ReceiveWindow.drained.Goals as goal
 

@@ -1,4 +1,4 @@
-use Rattle.std.proofs.Common.{◌⊎◌, inl, inr, ◌≡◌, ◌<◌, ◌+◌, ℕ, sym, ap, ◌∙◌, arith}
+use Rattle.std.proofs.Common.{◌⊎◌, inl, inr, ◌≡◌, ◌<◌, sym, ap, ◌∙◌, arith}
 use Rattle.mt_windows.specs.ArrivedView.{Inbox, past_front}
 use Rattle.mt_windows.proofs.Order.{past_step, not_drained}
 use Rattle.mt_windows.proofs.receive.ReceiveWindow.pass_drained.Goals as goal

@@ -1,4 +1,4 @@
-use Rattle.std.proofs.Common.{◌≡◌, ◌+◌, ◌-◌, ◌<◌, ◌≤◌, ◌^◌, ◌⊎◌, ℕ}
+use Rattle.std.proofs.Common.{◌≡◌, ◌-◌, ◌<◌, ◌^◌, ◌⊎◌, ℕ}
 use Rattle.mt_windows.specs.Arrived.{Parts}
 use Rattle.mt_windows.specs.ArrivedView.{Keeps, left_of}
 use Rattle.mt_windows.proofs.receive.ReceiveWindow.pass_drained.Given as goal

@@ -1,4 +1,4 @@
-use Rattle.std.proofs.Common.{◌≡◌, ◌-◌, sym, ap, ◌+◌, ◌∙◌, subst, arith, length, take, drop, length-drop, add_assoc}
+use Rattle.std.proofs.Common.{◌≡◌, ◌-◌, ap, ◌+◌, ◌∙◌, subst, arith, length, take, drop, length-drop, add_assoc}
 use Rattle.std.proofs.lemmas.List.{drop-drop, take_rest}
 use Rattle.mt_windows.specs.ArrivedView.{Receives, left_of}
 use Rattle.mt_windows.proofs.Order.{receives_left, piece_bytes, piece_rest, piece_within}

@@ -1,4 +1,4 @@
-use Rattle.std.proofs.Common.{sym, ap, ◌∙◌, subst, arith}
+use Rattle.std.proofs.Common.{sym, subst}
 use Rattle.mt_windows.specs.ArrivedView.{Keeps}
 use Rattle.mt_windows.proofs.Order.{keeps_pulled}
 use Rattle.mt_windows.proofs.receive.ReceiveWindow.pull_front.Goals as goal

@@ -1,8 +1,9 @@
-use Rattle.std.proofs.Common.{◌≡◌, ◌+◌, ◌-◌, ◌≤◌, ◌<◌, Some, true, length, take, drop, set, min, sym, ap, ◌∙◌, refl, subst, arith, length-drop}
+use Rattle.std.proofs.Common.{◌≡◌, ◌+◌, ◌-◌, Some, true, length, take, drop, set, sym, ap, ◌∙◌, subst, arith, length-drop}
 use Rattle.mt_windows.specs.Sending.{next_piece, cuts, transmissions}
 use Rattle.mt_windows.specs.SendingView.{Outbox, Sends, limits, queued_of, may_cut_of}
 use Rattle.mt_windows.specs.FlightView.{bytes_in}
-use Rattle.mt_windows.proofs.InFlight.{may_cut_facts, cut_bytes, cut_step, sound_cut, bytes_set}
+use Rattle.mt_windows.proofs.Sendings.{may_cut_facts, cut_bytes, cut_step, sound_cut}
+use Rattle.mt_windows.proofs.InFlight.{bytes_set}
 use Rattle.mt_windows.proofs.send.SendWindow.cut.Goals as goal
 
 pub invariant_of-self : goal.invariant_of-self

@@ -1,4 +1,4 @@
-use Rattle.std.proofs.Common.{◌≡◌, ◌+◌, length, sym, ap, ◌∙◌, subst, arith}
+use Rattle.std.proofs.Common.{◌+◌, length, sym, ap, ◌∙◌, subst}
 use Rattle.mt_windows.specs.SendingView.{Flying, queued_of}
 use Rattle.mt_windows.proofs.InFlight.{past_rebased, settled_front, front_there, flying_turned, bytes_turned}
 use Rattle.mt_windows.proofs.send.SendWindow.pass_settled.Goals as goal

@@ -1,9 +1,9 @@
-use Rattle.std.proofs.Common.{◌≡◌, ◌+◌, ◌&&◌, ◌<◌, Bool, true, false, ltb, is_some, None, refl, sym, ap, ◌∙◌, subst, arith}
+use Rattle.std.proofs.Common.{◌+◌, ◌&&◌, ltb, is_some, None, sym, ap, ◌∙◌, subst, arith}
 use Rattle.std.proofs.lemmas.List.{get_or_read}
-use Rattle.std.proofs.lemmas.Bool.Decides.{nat_tests}
 use Rattle.mt_windows.specs.declared.flight.Flight.{Flight}
 use Rattle.mt_windows.specs.SendingView.{Sends}
-use Rattle.mt_windows.proofs.InFlight.{passed_found, passed_none, both}
+use Rattle.mt_windows.proofs.InFlight.{passed_found, passed_none}
+use Rattle.mt_windows.proofs.Sendings.{both}
 use Rattle.mt_windows.proofs.send.SendWindow.passed_over.Goals as goal
 
 pub returns-then-flight-self-clause-history : goal.returns-then-flight-self-clause-history

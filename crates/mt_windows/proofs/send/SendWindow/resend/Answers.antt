@@ -1,8 +1,8 @@
-use Rattle.std.proofs.Common.{◌≡◌, ◌+◌, ◌-◌, ◌≤◌, ◌<◌, true, length, take, drop, set, [], ◌∷◌, ◌++◌, None, sym, ap, ◌∙◌, refl, subst, arith}
+use Rattle.std.proofs.Common.{◌≡◌, ◌+◌, ◌-◌, ◌<◌, true, length, drop, set, [], ◌∷◌, ◌++◌, None, sym, ap, ◌∙◌, refl, subst, arith}
 use Rattle.std.proofs.lemmas.List.{get_or_read, take_at}
 use Rattle.mt_windows.specs.declared.flight.Flight.{Flight}
 use Rattle.mt_windows.specs.SendingView.{Outbox, Sends, queued_of, is_unsettled}
-use Rattle.mt_windows.proofs.InFlight.{unsettled_facts, in_flight_piece, bytes_kept, resend_step}
+use Rattle.mt_windows.proofs.Sendings.{unsettled_facts, in_flight_piece, bytes_kept, resend_step}
 use Rattle.mt_windows.proofs.send.SendWindow.resend.Goals as goal
 
 pub returns-clause-bytes : goal.returns-clause-bytes

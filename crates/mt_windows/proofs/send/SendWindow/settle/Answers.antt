@@ -1,4 +1,4 @@
-use Rattle.std.proofs.Common.{◌&&◌, not, eqb, ◌+◌, sym, ap, ◌∙◌, subst, arith}
+use Rattle.std.proofs.Common.{◌&&◌, not, eqb, ◌+◌, sym, ap, subst, arith}
 use Rattle.mt_windows.specs.SendingView.{Flying, queued_of}
 use Rattle.mt_windows.proofs.InFlight.{flying_landed, landed_less}
 use Rattle.mt_windows.proofs.send.SendWindow.settle.Goals as goal

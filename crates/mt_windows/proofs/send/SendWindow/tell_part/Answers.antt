@@ -3,7 +3,7 @@ use Rattle.std.proofs.lemmas.List.{get_or_read}
 use Rattle.mt_windows.specs.declared.flight.Flight.{Flight}
 use Rattle.mt_windows.specs.Sending.{tells_part}
 use Rattle.mt_windows.specs.SendingView.{Sends, heard_of}
-use Rattle.mt_windows.proofs.InFlight.{part_outside, part_missing, part_told}
+use Rattle.mt_windows.proofs.Telling.{part_outside, part_missing, part_told}
 use Rattle.mt_windows.proofs.send.SendWindow.tell_part.Goals as goal
 use Rattle.mt_windows.proofs.send.SendWindow.tell_part.Goals.{then-part-self-via-then-part-self, then-part-self-via-else-part-self+then-part-self-2}
 

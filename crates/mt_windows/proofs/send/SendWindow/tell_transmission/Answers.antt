@@ -1,9 +1,7 @@
-use Rattle.std.proofs.Common.{◌≡◌, ◌+◌, ◌-◌, ◌≤◌, ◌<◌, false, true, inl, inr, None, is_some, length, refl, sym, ap, ◌∙◌, subst, arith}
-use Rattle.std.proofs.lemmas.List.{get_or_read}
-use Rattle.mt_windows.specs.declared.flight.Flight.{Flight}
-use Rattle.mt_windows.specs.Sending.{tells_transmission, is_open, part_of}
+use Rattle.std.proofs.Common.{◌+◌, ◌-◌, ◌≤◌, false, true, inl, inr, length, refl, sym, ap, ◌∙◌, subst, arith}
+use Rattle.mt_windows.specs.Sending.{tells_transmission, is_open}
 use Rattle.mt_windows.specs.SendingView.{Sends, limits, heard_of}
-use Rattle.mt_windows.proofs.InFlight.{transmission_outside, transmission_old, transmission_heard, transmission_told, settles_is, carried_is, flying_is, heard_keeps}
+use Rattle.mt_windows.proofs.Telling.{transmission_outside, transmission_old, transmission_heard, transmission_told, settles_is, carried_is, flying_is, heard_keeps}
 use Rattle.mt_windows.proofs.send.SendWindow.tell_transmission.Goals as goal
 use Rattle.mt_windows.proofs.send.SendWindow.tell_transmission.Goals.{then-transmission-self-via-then-transmission-self, then-transmission-self-via-else-transmission-self+then-transmission-self-2}
 
