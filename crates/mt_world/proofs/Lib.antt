@@ -10,4 +10,5 @@ pub mod Outgoing
 pub mod Safety
 pub mod SpelledBytes
 pub mod PlayedNet
+pub mod Arriving
 pub mod Cuts

@@ -66,10 +66,10 @@ moves_out role t h = (sym (take_all (length (unsent role t)) (unsent role t) (om
 moves_in : (role : Role) (t : Trace Entry) (bytes : List ℕ) → IsBytes bytes → EndTrace role t → EndTrace role (t ▷ MainIn bytes (length bytes))
 moves_in role t bytes all h = (all, refl, h)
 
-arrives : (here there bytes : List ℕ) → here ≡ there → here ++ take (length bytes) bytes ≡ there ++ bytes
+pub arrives : (here there bytes : List ℕ) → here ≡ there → here ++ take (length bytes) bytes ≡ there ++ bytes
 arrives here there bytes same = ap (λ x. here ++ x) (take_all (length bytes) bytes (omega arith)) ∙ ap (λ x. x ++ bytes) same
 
-main_good : (laws : PduLaws) → (side : Role) (w : Trace (Role × Entry)) → IsGood w → IsGood (w ▷ (side, MainOut (length (unsent side (at side w))) (unsent side (at side w))) ▷ (other side, MainIn (unsent side (at side w)) (length (unsent side (at side w)))))
+pub main_good : (laws : PduLaws) → (side : Role) (w : Trace (Role × Entry)) → IsGood w → IsGood (w ▷ (side, MainOut (length (unsent side (at side w))) (unsent side (at side w))) ▷ (other side, MainIn (unsent side (at side w)) (length (unsent side (at side w)))))
 main_good laws Server w g = record {
   server = moves_out Server (at Server w) g.server;
   client = moves_in Client (at Client w) (unsent Server (at Server w)) (unsent_bytes laws Server (at Server w) g.server) g.client;

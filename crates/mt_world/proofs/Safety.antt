@@ -69,3 +69,21 @@ safe_one_way laws id role here there h front =
     front-at (messages_in id (reads (past role here).acts)) (delivered id (past role here).acts) (messages_in id (outgoing (other role) (past (other role) there).acts)) (sent id (past (other role) there).acts)
     (sym (delivered-reads id (past role here).acts)) (sent-outgoing id (other role) (past (other role) there).acts)
     (front-flat_map (message_in id) (reads (past role here).acts) (outgoing (other role) (past (other role) there).acts) (reads-outgoing laws role here there h front))
+
+-- an end that took all that the other wrote has read all its PDUs
+all-read : (laws : PduLaws) → (role : Role) (here there : Trace Entry) → EndTrace (other role) there → taken here ≡ written (other role) (past (other role) there).acts
+    → reads (past role here).acts ≡ outgoing (other role) (past (other role) there).acts
+unfolding written
+all-read laws role here there h all =
+    let from = other role in
+    let pdus = outgoing from (past from there).acts in
+    let whole : fold (hear from) ([], []) (taken here) ≡ (pdus, []) =
+    ap (fold (hear from) ([], [])) all ∙ hear-written from (laws.back from) [] pdus (end_sound laws from there h).out in
+    ap (λ (x : Heard). x.0) (heard-past role here) ∙ ap (λ (x : Heard). x.0) whole
+
+-- and has had all its messages
+pub arrived_one_way : (laws : PduLaws) → (id : ℕ) (role : Role) (here there : Trace Entry) → EndTrace (other role) there → taken here ≡ written (other role) (past (other role) there).acts
+    → delivered id (past role here).acts ≡ sent id (past (other role) there).acts
+arrived_one_way laws id role here there h all =
+    delivered-reads id (past role here).acts ∙ ap (messages_in id) (all-read laws role here there h all)
+    ∙ sent-outgoing id (other role) (past (other role) there).acts

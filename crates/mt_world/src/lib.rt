@@ -15,7 +15,7 @@ mod report;
 mod side;
 mod world;
 
-pub use laws::{net_is_safe, plays_safely, stream_is_read};
+pub use laws::{all_arrives, net_is_safe, plays_safely, stream_is_read};
 pub use mt_script::{Event, ScriptRefusal, Text};
 pub use refusal::{OpenRefusal, Refused, SendRefusal, StepRefusal};
 pub use world::World;

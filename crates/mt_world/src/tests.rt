@@ -283,6 +283,7 @@ fn refuses_to_send(rt: HostRuntime) -> Result<(), Fail> {
 #[test]
 fn laws_are_public() {
     net_is_safe();
+    all_arrives();
     plays_safely();
     stream_is_read();
 }

@@ -39,7 +39,7 @@ impl World {
         })
     }
 
-    /// Plays one event, and then hands out all whole messages, the server's first.
+    /// Plays one event, and then hands out all whole messages at both sides.
     ///
     /// A refused event changes nothing. After [`StepRefusal::NoMemory`] the world is not to be used
     /// again.
@@ -106,7 +106,7 @@ impl World {
         }
     }
 
-    /// All whole messages are handed out, the server's first.
+    /// All whole messages are handed out at both sides.
     fn hand_out(&mut self) -> Result<(), NoMemory>
         ensures { (w : Trace (Role × Entry)) → Stands self.old w → OnOk result (Stands self.new (all_taken Client (all_taken Server w))) }
     {
