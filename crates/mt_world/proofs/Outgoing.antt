@@ -109,7 +109,7 @@ opens_fits role id name is small named =
 pub end_sound : (laws : PduLaws) → (role : Role) (t : Trace Entry) → EndTrace role t → IsSound role (past role t)
 end_sound laws role Start h = record { part = All-nil (λ b. b < 2 ^ 8); out = tt }
 end_sound laws role (t ▷ Made) h = act_sound role (past role t) Began (began_fits role) (end_sound laws role t h.1)
-end_sound laws role (t ▷ Opened id name) h = act_sound role (past role t) (Opens id name) (opens_fits role id name h.0 h.2 h.3, tt) (end_sound laws role t h.4)
+end_sound laws role (t ▷ Opened id name) h = act_sound role (past role t) (Opens id name) (opens_fits role id name h.0 h.2 h.3, tt) (end_sound laws role t h.5)
 end_sound laws role (t ▷ Sent id message) h = act_sound role (past role t) (Sends id message) (h.1, tt) (end_sound laws role t h.2)
 end_sound laws role (t ▷ MainIn offered count) h =
     bytes_sound laws role (past role t) (take count offered) (recursion_from_All (λ b. b < 2 ^ 8) (take count offered) (All-take (λ b. b < 2 ^ 8) count offered h.0)) (end_sound laws role t h.2)

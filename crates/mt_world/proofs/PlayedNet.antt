@@ -23,7 +23,7 @@ use Rattle.mt_world.specs.declared.refusal.StepRefusal.{StepRefusal}
 use Rattle.mt_world.specs.declared.refusal.StepRefusal.TheVariants as step
 use Rattle.mt_world.specs.declared.refusal.SendRefusal.{SendRefusal}
 use Rattle.mt_world.specs.declared.refusal.OpenRefusal.{OpenRefusal}
-use Rattle.mt_world.specs.Acts.{Entry, Made, Opened, Sent, MainIn, MainOut, Took, past, names, channel, written, unsent, given, taken, took, waiting, delivered}
+use Rattle.mt_world.specs.Acts.{Entry, Made, Opened, Sent, MainIn, MainOut, Took, past, names, is_ready, channel, written, unsent, given, taken, took, waiting, delivered}
 use Rattle.mt_world.specs.Ends.{EndTrace, IsBytes, channel_limit}
 use Rattle.mt_world.specs.Net.{Net, at, acts_of}
 use Rattle.mt_world.specs.Play.{Ending, RefusedAt, ◌or_else◌, when, name_fault, bad_name, open_refusal_of, state_refusal, send_refusal_of, message_limit, is_made, refused_open, refused_send, unless, calls, handed_out, all_taken, then_taken, played, start, play}
@@ -106,6 +106,10 @@ not_refused_send : (cause : Option SendRefusal) → refused_send cause ≡ None 
 not_refused_send None h = refl
 not_refused_send (Some cause) h = cc
 
+is_true : (b : Bool) → not b ≡ false → b ≡ true
+is_true true h = refl
+is_true false h = cc
+
 open_good : (w : Trace (Role × Entry)) (name : List ℕ) → IsGood w → open_refusal_of (acts_of Server w) name ≡ None → IsGood (w ▷ (Server, Opened (length (names (acts_of Server w)) + 1) name))
 open_good w name g none =
     let outer = no_cause _ _ none in
@@ -113,7 +117,7 @@ open_good w name g none =
     let named = name_from_no_fault name (no_fault (name_fault name) inner.1) in
     let first : length (names (acts_of Server w)) < 1 = leb-false 1 (length (names (acts_of Server w))) (when_not _ _ outer.1) in
     record {
-      server = (refl, refl, omega (arith, first), named, g.server);
+      server = (refl, refl, omega (arith, first), named, is_true (is_ready (acts_of Server w)) (when_not _ _ inner.0), g.server);
       client = g.client;
       to_server = g.to_server;
       to_client = g.to_client;
@@ -124,10 +128,6 @@ open_state state.Unknown h = cc
 open_state state.Asked h = cc
 open_state state.Open h = refl
 open_state state.Refused h = cc
-
-is_true : (b : Bool) → not b ≡ false → b ≡ true
-is_true true h = refl
-is_true false h = cc
 
 second_true : (a b : Bool) → a && b ≡ true → b ≡ true
 second_true true b h = h

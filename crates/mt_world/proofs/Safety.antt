@@ -38,7 +38,7 @@ bytes_grow role p (b ∷ bs) =
 pub given-written : (role : Role) (t : Trace Entry) → EndTrace role t → IsPrefixOf (given t) (written role (past role t).acts)
 given-written role Start h = (written role Start, refl)
 given-written role (t ▷ Made) h = front-trans (given t) (written role (past role t).acts) _ (given-written role t h.1) (act_grows role (past role t).acts Began)
-given-written role (t ▷ Opened id name) h = front-trans (given t) (written role (past role t).acts) _ (given-written role t h.4) (act_grows role (past role t).acts (Opens id name))
+given-written role (t ▷ Opened id name) h = front-trans (given t) (written role (past role t).acts) _ (given-written role t h.5) (act_grows role (past role t).acts (Opens id name))
 given-written role (t ▷ Sent id message) h = front-trans (given t) (written role (past role t).acts) _ (given-written role t h.2) (act_grows role (past role t).acts (Sends id message))
 given-written role (t ▷ MainIn offered count) h =
     front-trans (given t) (written role (past role t).acts) _ (given-written role t h.2) (bytes_grow role (past role t) (take count offered))
