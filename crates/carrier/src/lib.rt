@@ -1,16 +1,24 @@
-//! What a link of datagrams is to the crates above it, whatever layout its datagrams have. For now
-//! it holds the refusals of the two datagram layouts alone, so that whoever speaks of links can
-//! name them without naming a layout's crate.
+//! What a link of datagrams is to the crates above it, whatever layout its datagrams have: the
+//! traits [`Carrier`] and [`Post`] of a reliable and of a lossy link, what they answer, and the
+//! refusals of the two datagram layouts. In `specs/` stand the entries and traces of a link, what
+//! was received and sent by them, what is due, and the law that they keep.
 //!
-//! Below it stands `mt_base` alone. What the crates above use is that a field that is cut short
-//! becomes the layout's refusal with its place and length kept.
+//! Below it stand `mt_base` and `mt_windows`, whose definitions of parts and tellings the traces
+//! use. What the crates above use is that a link stands for a trace of its calls that keeps the
+//! link's law, and what each call adds to that trace.
 #![tactic(auto)]
 
 mod first_layout;
+mod lossy;
+mod reliable;
 mod second_layout;
+mod state;
 
 pub use first_layout::Refusal1;
+pub use lossy::{Post, PostRefusal};
+pub use reliable::{Carrier, GiveRefusal};
 pub use second_layout::Refusal2;
+pub use state::{LinkState, Reason, Took};
 
 #[cfg(test)]
 mod tests;
