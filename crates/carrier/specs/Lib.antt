@@ -5,3 +5,5 @@ pub mod Sending
 pub mod Due
 pub mod Law
 pub mod States
+pub mod LayoutLaw
+pub mod Joined
