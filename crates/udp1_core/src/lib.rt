@@ -1,5 +1,7 @@
 //! The machine of a reliable link whose datagrams have the first layout.
 #![tactic(auto)]
 
+mod choice;
 mod numbers;
 mod receiver;
+mod sender;
