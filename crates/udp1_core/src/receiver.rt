@@ -146,7 +146,7 @@ impl Receiver {
             let load = Carries start coded bytes.now in
             Hears self.old got.parts n floor owed →
             Hears self.new (parts_with layout got n (arrival layout got n load)) n floor
-                (if is_some (taken layout got n load) then owed ++ at ∷ [] else owed) }
+            (if is_some (taken layout got n load) then owed ++ at ∷ [] else owed) }
         ensures peer { self.new.peer ≡ self.old.peer }
         ensures delay { self.new.delay ≡ self.old.delay }
         ensures left { (more : List ℕ) × (left_of self.new.inbox ≡ left_of self.old.inbox ++ more) }
@@ -190,7 +190,7 @@ impl Receiver {
             let after = receives layout got n (Some shown) in
             Hears self.old got.parts n old owed →
             Hears self.new after.parts n (floor_shown layout got n after old (Some shown))
-                (if owes layout got n (Some shown) then owed ++ at ∷ [] else owed) }
+            (if owes layout got n (Some shown) then owed ++ at ∷ [] else owed) }
         ensures peer { self.new.peer ≡ self.old.peer }
         ensures delay { self.new.delay ≡ self.old.delay }
         ensures left { (more : List ℕ) × (left_of self.new.inbox ≡ left_of self.old.inbox ++ more) }
@@ -252,8 +252,15 @@ impl Receiver {
             take result out.new ≡ elements_of (flags_in (telling_of self.now.peer floor parts)) }
     {
         let named = self.named();
-        let from = self.peer.max(self.floor).max(named.saturating_sub(WINDOW - 1));
-        let count = if from <= named { (named - from + 1) as usize } else { 0 };
+        let from = self
+            .peer
+            .max(self.floor)
+            .max(named.saturating_sub(WINDOW - 1));
+        let count = if from <= named {
+            (named - from + 1) as usize
+        } else {
+            0
+        };
         let mut flags = [false; 64];
         self.mark(from, &mut flags[..count]);
         match write_runs(&flags[..count], out) {
