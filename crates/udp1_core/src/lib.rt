@@ -14,3 +14,6 @@ mod receiver;
 mod sender;
 
 pub use machine::Udp1Core;
+
+#[cfg(test)]
+mod tests;

@@ -119,7 +119,8 @@ impl Sender {
 
     /// Whether more expiries came in a row than a link survives.
     pub fn is_closed(&self) -> bool
-        ensures { (delay peer : ℕ) → result ≡ is_over (layout_out self.now delay peer) self.now.timer }
+        ensures exact { result ≡ nat_lt 16 self.now.timer.expiries }
+        ensures over { (delay peer : ℕ) → result ≡ is_over (layout_out self.now delay peer) self.now.timer }
     {
         EXPIRIES < self.expiries
     }
