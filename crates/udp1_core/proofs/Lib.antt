@@ -1,2 +1,3 @@
 pub mod Spellings
-pub mod Answers
+pub mod Shown
+pub mod ReadBack

@@ -1,5 +1,5 @@
 -- How the bytes of a datagram begin with what stands before the data.
-use Rattle.std.proofs.Common.{◌≡◌, ℕ, List, [], ◌∷◌, ◌++◌, Option, refl, sym, ap, ◌∙◌, append_assoc, append-nil}
+use Rattle.std.proofs.Common.{◌≡◌, ℕ, List, [], ◌∷◌, ◌++◌, Option, sym, ap, ◌∙◌, append_assoc, append-nil}
 use Rattle.byteorder.specs.Endian.{big_bytes}
 use Rattle.mt_base.specs.Writing.{joined}
 use Rattle.udp1_packets.specs.Value.{DataBody, Packet}
