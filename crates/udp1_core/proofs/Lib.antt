@@ -2,3 +2,5 @@ pub mod Spellings
 pub mod Shown
 pub mod ReadBack
 pub mod Sizes
+pub mod Told
+pub mod Tiny

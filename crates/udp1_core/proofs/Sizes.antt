@@ -1,5 +1,5 @@
 -- How many bytes a datagram of the first layout has.
-use Rattle.std.proofs.Common.{◌≡◌, ℕ, ◌+◌, ◌-◌, ◌%◌, ◌≤◌, Bool, true, false, List, [], ◌∷◌, ◌++◌, length, replicate, Option, Some, None, ap, ◌∙◌, arith}
+use Rattle.std.proofs.Common.{◌≡◌, ℕ, ◌+◌, ◌-◌, ◌%◌, ◌≤◌, Bool, true, false, List, [], ◌∷◌, ◌++◌, length, replicate, Option, Some, None, ap, arith}
 use Rattle.std.specs.Option.{IfSome, option_map}
 use Rattle.std.proofs.lemmas.Nat.{mod_below}
 use Rattle.std.proofs.lemmas.List.{length-append, length-replicate}
@@ -13,7 +13,7 @@ use Rattle.carrier.specs.Layout.{Carried, Datagram, Telling, named_in, Received}
 use Rattle.carrier.specs.LayoutLaw.{IsCarried, datagram_of}
 use Rattle.mt_windows.specs.declared.limits.TheConstants.{WINDOW}
 use Rattle.udp1_packets.specs.Layout.{aoa_fields, flags, spelled, to_four, vector_fields, zeros_after}
-use Rattle.udp1_core.specs.FirstLayout.{first_layout, flags_in, low, packet_with, body_of, vector_in}
+use Rattle.udp1_core.specs.FirstLayout.{first_layout, flags_in, low, packet_with, vector_in}
 use Rattle.udp1_core.proofs.ReadBack.{IsShort, telling_short}
 
 -- ---- the parts
