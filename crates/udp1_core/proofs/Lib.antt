@@ -4,3 +4,4 @@ pub mod ReadBack
 pub mod Sizes
 pub mod Told
 pub mod Tiny
+pub mod Whole
