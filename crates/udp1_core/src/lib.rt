@@ -3,4 +3,4 @@
 
 mod laws;
 
-pub use laws::first_layout_is_read;
+pub use laws::{first_layout_is_read, one_part_goes_over};
