@@ -2,6 +2,7 @@ pub mod Spellings
 pub mod Shown
 pub mod ReadBack
 pub mod Sizes
+pub mod Carrying
 pub mod Told
-pub mod Tiny
+pub mod Headless
 pub mod Whole
