@@ -19,7 +19,9 @@ use Rattle.udp1_core.proofs.ReadBack.{IsShort, telling_short}
 -- ---- the parts
 
 -- a vector of at most 64 elements, with what fills its last unit
-vector_size : (tells : Bool) (telling : Telling) → IsShort telling → length (joined (vector_fields (vector_in tells telling) (zeros_after (vector_in tells telling)))) ≤ 69
+vector_size : (tells : Bool) (telling : Telling) → IsShort telling
+    → (let vector = vector_in tells telling in
+    length (joined (vector_fields vector (zeros_after vector))) ≤ 69)
 vector_size false telling short = omega arith
 vector_size true telling short =
     let elements = elements_of (flags_in telling) in
@@ -45,20 +47,25 @@ aoa_size None = omega arith
 aoa_size (Some n) = omega (arith, length-bytes_high_first 4 n, length-append (big_bytes 4 n) [])
 
 -- the header
-header_size : (ack window word : ℕ) (fields : List (List ℕ)) → length (joined (big_bytes 4 ack ∷ big_bytes 2 window ∷ big_bytes 2 word ∷ fields)) ≡ 8 + length (joined fields)
+header_size : (ack window word : ℕ) (fields : List (List ℕ))
+    → length (joined (big_bytes 4 ack ∷ big_bytes 2 window ∷ big_bytes 2 word ∷ fields))
+    ≡ 8 + length (joined fields)
 header_size ack window word fields =
     omega (
       arith,
       length-bytes_high_first 4 ack,
       length-bytes_high_first 2 window,
       length-bytes_high_first 2 word,
-      length-append (big_bytes 4 ack) (big_bytes 2 window ++ (big_bytes 2 word ++ joined fields)),
+      length-append (big_bytes 4 ack)
+          (big_bytes 2 window ++ (big_bytes 2 word ++ joined fields)),
       length-append (big_bytes 2 window) (big_bytes 2 word ++ joined fields),
       length-append (big_bytes 2 word) (joined fields),
     )
 
 -- the numbers before data, and the data
-data_size : (coded start : ℕ) (bytes : List ℕ) → length (joined (big_bytes 4 coded ∷ big_bytes 4 start ∷ bytes ∷ [])) ≡ 8 + length bytes
+data_size : (coded start : ℕ) (bytes : List ℕ)
+    → length (joined (big_bytes 4 coded ∷ big_bytes 4 start ∷ bytes ∷ []))
+    ≡ 8 + length bytes
 data_size coded start bytes =
     omega (
       arith,
@@ -70,7 +77,9 @@ data_size coded start bytes =
     )
 
 -- two groups of fields and what follows them
-groups_size : (xs ys zs : List (List ℕ)) → length (joined (xs ++ (ys ++ zs))) ≡ length (joined xs) + length (joined ys) + length (joined zs)
+groups_size : (xs ys zs : List (List ℕ))
+    → length (joined (xs ++ (ys ++ zs)))
+    ≡ length (joined xs) + length (joined ys) + length (joined zs)
 groups_size xs ys zs =
     omega (
       arith,
@@ -87,7 +96,9 @@ abbrev pub bytes_in : Option Carried → List ℕ
 bytes_in None = []
 bytes_in (Some c) = c.bytes
 
-spelled_size : (d : Datagram) (load : Option Carried) → IsShort d.telling → length (spelled (packet_with (record d { load = load }))) ≤ 89 + length (bytes_in load)
+-- a datagram with this load has at most 89 bytes beside those of the part
+spelled_size : (d : Datagram) (load : Option Carried) → IsShort d.telling
+    → length (spelled (packet_with (record d { load = load }))) ≤ 89 + length (bytes_in load)
 spelled_size d None short =
     let vector = vector_in d.tells d.telling in
     let aoa = option_map low d.floor in
@@ -116,17 +127,22 @@ spelled_size d (Some c) short =
     )
 
 -- a datagram has at most 89 bytes beside those of the part that it carries
-pub datagram_size : (d : Datagram) → IsShort d.telling → length (spelled (packet_with d)) ≤ 89 + length (bytes_in d.load)
+pub datagram_size : (d : Datagram) → IsShort d.telling
+    → length (spelled (packet_with d)) ≤ 89 + length (bytes_in d.load)
 datagram_size d short = spelled_size d d.load short
 
-part_size : (wait delay own peer : ℕ) (load : Option Carried) → IfSome load (IsCarried (first_layout wait delay own peer)) → length (bytes_in load) ≤ 1000
+-- a part has at most 1,000 bytes
+part_size : (wait delay own peer : ℕ) (load : Option Carried)
+    → IfSome load (IsCarried (first_layout wait delay own peer)) → length (bytes_in load) ≤ 1000
 part_size wait delay own peer None is = omega arith
 part_size wait delay own peer (Some c) is = is.0
 
 -- a datagram is short enough to carry a part and what was received
-pub short_enough : (wait delay own peer : ℕ) (r : Received) (above : ℕ) (tells : Bool) (floor : Option ℕ) (load : Option Carried)
+pub short_enough : (wait delay own peer : ℕ) (r : Received) (above : ℕ) (tells : Bool)
+    (floor : Option ℕ) (load : Option Carried)
     → IfSome load (IsCarried (first_layout wait delay own peer))
-    → (let l = first_layout wait delay own peer in length (l.spell (datagram_of l r above tells floor load)) ≤ 1132)
+    → (let l = first_layout wait delay own peer in
+    length (l.spell (datagram_of l r above tells floor load)) ≤ 1132)
 short_enough wait delay own peer r above tells floor load is =
     let d = datagram_of (first_layout wait delay own peer) r above tells floor load in
     let size = datagram_size d (telling_short peer above r.parts) in

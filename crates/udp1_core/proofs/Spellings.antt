@@ -22,7 +22,7 @@ before_many : (front fields fewer : List (List ℕ)) (bytes : List ℕ)
 before_many [] fields fewer bytes is = is
 before_many (f ∷ front) fields fewer bytes is =
     before_one f (front ++ fields) (front ++ fewer) bytes
-        (before_many front fields fewer bytes is)
+    (before_many front fields fewer bytes is)
 
 -- the bytes of a packet of data stand behind the same packet with none
 pub data_behind : (p : Packet) (vector : Option (List ℕ)) (aoa : Option ℕ) (coded start : ℕ)
@@ -39,13 +39,13 @@ data_behind p vector aoa coded start bytes =
     let body : List ℕ → List (List ℕ) = λ t. told ++ (aoa_fields aoa ++ tail t) in
     let numbers : joined (tail bytes) ≡ joined (tail []) ++ bytes =
     before_one (big_bytes 4 coded) (big_bytes 4 start ∷ bytes ∷ []) (big_bytes 4 start ∷ [] ∷ [])
-        bytes (before_one (big_bytes 4 start) (bytes ∷ []) ([] ∷ []) bytes (append-nil bytes)) in
+    bytes (before_one (big_bytes 4 start) (bytes ∷ []) ([] ∷ []) bytes (append-nil bytes)) in
     let behind : joined (body bytes) ≡ joined (body []) ++ bytes =
     before_many told (aoa_fields aoa ++ tail bytes) (aoa_fields aoa ++ tail []) bytes
-        (before_many (aoa_fields aoa) (tail bytes) (tail []) bytes numbers) in
+    (before_many (aoa_fields aoa) (tail bytes) (tail []) bytes numbers) in
     before_one ack (window ∷ word ∷ body bytes) (window ∷ word ∷ body []) bytes
-        (before_one window (word ∷ body bytes) (word ∷ body []) bytes
-        (before_one word (body bytes) (body []) bytes behind))
+    (before_one window (word ∷ body bytes) (word ∷ body []) bytes
+    (before_one word (body bytes) (body []) bytes behind))
 
 -- the bytes of a part stand behind the same datagram with none
 pub part_behind : (d : Datagram) (c : Carried)
@@ -53,4 +53,4 @@ pub part_behind : (d : Datagram) (c : Carried)
     ≡ spelled (packet_with (record d { load = Some (record c { bytes = [] }) })) ++ c.bytes
 part_behind d c =
     data_behind (packet_with d) (vector_in d.tells d.telling) (option_map low d.floor)
-        (low c.transmission) (low c.part) c.bytes
+    (low c.transmission) (low c.part) c.bytes
