@@ -32,3 +32,9 @@ fn a_part_is_sent_again_after_half_a_second(rt: HostRuntime) {
     ];
     assert!(rt; sends(&mut link, 500, &again));
 }
+
+#[test]
+fn laws_hold() {
+    first_layout_is_read();
+    one_part_goes_over();
+}
