@@ -6,3 +6,4 @@ pub mod Carrying
 pub mod Told
 pub mod Headless
 pub mod Whole
+pub mod Steps
