@@ -23,23 +23,35 @@ pub struct Contents<'a> {
 pub fn contents_of<'a>(packet: &Packet1<'a>) -> Option<Contents<'a>>
     ensures { PacketShows (packet_of packet.now) result }
 {
-    let (vector, floor, load) = match packet.body {
-        Body1::Syn(_) => return None,
+    let (window, named) = (packet.window, packet.ack);
+    match packet.body {
+        Body1::Syn(_) => None,
         Body1::Data {
             vector,
             aoa,
             start,
             bytes,
             ..
-        } => (vector, aoa, Load::Part { start, bytes }),
-        Body1::Fec { vector, aoa, .. } => (vector, aoa, Load::Correction),
-        Body1::Bare { vector, aoa, .. } => (vector, aoa, Load::Empty),
-    };
-    Some(Contents {
-        window: packet.window,
-        named: packet.ack,
-        vector,
-        floor,
-        load,
-    })
+        } => Some(Contents {
+            window,
+            named,
+            vector,
+            floor: aoa,
+            load: Load::Part { start, bytes },
+        }),
+        Body1::Fec { vector, aoa, .. } => Some(Contents {
+            window,
+            named,
+            vector,
+            floor: aoa,
+            load: Load::Correction,
+        }),
+        Body1::Bare { vector, aoa, .. } => Some(Contents {
+            window,
+            named,
+            vector,
+            floor: aoa,
+            load: Load::Empty,
+        }),
+    }
 }
