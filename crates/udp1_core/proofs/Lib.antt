@@ -1,3 +1,4 @@
 pub mod Spellings
 pub mod Shown
 pub mod ReadBack
+pub mod Receiving

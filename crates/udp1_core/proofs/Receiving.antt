@@ -1,0 +1,111 @@
+-- What a machine hears: the flags that it tells, the window that it keeps, and the parts that it takes.
+use Rattle.std.proofs.Common.{◌≡◌, ℕ, zero, suc, ◌+◌, ◌-◌, ◌<◌, ◌^◌, ◌⊎◌, inl, inr, Bool, true, false, List, [], ◌∷◌, ◌++◌, length, get_or, Option, Some, None, is_some, refl, sym, ap, ◌∙◌, subst, arith}
+use Rattle.std.specs.Prelude.{if◌then◌else◌}
+use Rattle.mt_base.specs.Nearness.{nearest}
+use Rattle.mt_windows.specs.declared.receive.Accept.{Accept}
+use Rattle.mt_windows.specs.declared.receive.Accept.TheVariants.{New, Again}
+use Rattle.mt_windows.specs.Arrived.{Parts, verdict, with_part}
+use Rattle.mt_windows.specs.ArrivedView.{Inbox, Receives}
+use Rattle.mt_windows.proofs.Order.{receives_next}
+use Rattle.carrier.specs.declared.state.Took.TheVariants.{Used}
+use Rattle.carrier.specs.Layout.{Received, Carries, bounded}
+use Rattle.carrier.specs.Law.{answer_by, answer_load, answer_to}
+use Rattle.carrier.specs.Receiving.{arrival, arrival_of, is_taken, part_read, parts_with, taken, taken_of}
+use Rattle.udp1_core.specs.FirstLayout.{flags_from}
+use Rattle.udp1_core.specs.ReceiverView.{Hears, Receiver, layout_in}
+
+-- ---- the flags that are told
+
+-- flags that say of each number whether it was received are those that are told
+pub flags_are : (has : ℕ → Bool) (from n : ℕ) (flags : List Bool) → length flags ≡ n
+    → ((k : ℕ) → k < n → get_or flags k false ≡ has (from + k)) → flags ≡ flags_from has from n
+flags_are has from zero [] size say = refl
+flags_are has from zero (flag ∷ flags) size say = absurd (omega (arith, size))
+flags_are has from (suc n) [] size say = absurd (omega (arith, size))
+flags_are has from (suc n) (flag ∷ flags) size say =
+    let here : from + 0 ≡ from = omega arith in
+    let first : flag ≡ has from = say 0 (omega arith) ∙ ap has here in
+    ap (λ f. f ∷ flags) first
+    ∙ ap (λ fs. has from ∷ fs) (flags_are has (from + 1) n flags (omega (arith, size))
+        (λ k less. let there : from + suc k ≡ from + 1 + k = omega arith in say (suc k) (omega (arith, less)) ∙ ap has there))
+
+-- ---- the window
+
+-- with another window, for other parts or bytes
+pub with_window : (v r : Receiver) (w : Inbox) (parts more : Parts) (n m floor : ℕ) (owed : List ℕ)
+    → v ≡ r → Hears r parts n floor owed → Receives w r.peer more m → Hears (record v { inbox = w }) more m floor owed
+with_window v r w parts more n m floor owed same h receives =
+    let old : Hears (record r { inbox = w }) more m floor owed = record { receives = receives; floor_is = h.floor_is; owes = h.owes } in
+    subst (λ x. Hears (record x { inbox = w }) more m floor owed) (sym same) old
+
+-- the window that is kept
+pub kept_window : (v r : Receiver) (parts : Parts) (n floor : ℕ) (owed : List ℕ) → v ≡ r → Hears r parts n floor owed → Receives v.inbox r.peer parts n
+kept_window v r parts n floor owed same h = subst (λ x. Receives x.inbox r.peer parts n) (sym same) h.receives
+
+-- ---- a part that is taken
+
+-- a part that was accepted, now or before, is taken
+taken_is : (v : Accept) → (v ≡ New) ⊎ (v ≡ Again) → is_taken v ≡ true
+taken_is v (inl e) = ap is_taken e
+taken_is v (inr e) = ap is_taken e
+
+-- a part that was accepted, now or before, was used
+pub used_is : (v : Accept) → (v ≡ New) ⊎ (v ≡ Again) → Used ≡ answer_by v
+used_is v (inl e) = sym (ap answer_by e)
+used_is v (inr e) = sym (ap answer_by e)
+
+module _ (r : Receiver) (wait own n : ℕ) (got : Received) (bytes : List ℕ) where
+
+  -- a number is read near the next part
+  pub part_is : (low floor : ℕ) (owed : List ℕ) → Hears r got.parts n floor owed
+      → bounded (2 ^ 62) (nearest (2 ^ 32) (r.inbox.first + r.inbox.passed) low) ≡ part_read (layout_in r wait own) got n low
+  part_is low floor owed h =
+      ap (λ m. bounded (2 ^ 62) (nearest (2 ^ 32) m low)) (receives_next r.inbox r.peer got.parts n h.receives)
+
+  -- the answer to a part with this number and this verdict
+  pub part_answered : (low coded p : ℕ) (v : Accept) → Some p ≡ part_read (layout_in r wait own) got n low → v ≡ verdict 64 r.peer got.parts n p
+      → answer_by v ≡ answer_load (layout_in r wait own) got n (Carries low coded bytes)
+  part_answered low coded p v read is =
+      ap answer_by is ∙ ap (λ q. answer_to (layout_in r wait own) got n (arrival_of q (Some r.peer) bytes)) read
+
+  -- the answer to a part with no number
+  pub part_unanswered : (low coded : ℕ) → None ≡ part_read (layout_in r wait own) got n low
+      → answer_to (layout_in r wait own) got n None ≡ answer_load (layout_in r wait own) got n (Carries low coded bytes)
+  part_unanswered low coded read =
+      ap (λ q. answer_to (layout_in r wait own) got n (arrival_of q (Some r.peer) bytes)) read
+
+  -- this half stands for what was received with this number
+  abbrev HearsPart : Receiver → ℕ → ℕ → List ℕ → Option ℕ → Type 0
+  HearsPart s floor at owed q =
+      let layout = layout_in r wait own in
+      let load = arrival_of q (Some r.peer) bytes in
+      Hears s (parts_with layout got n load) n floor (if is_some (taken_of layout got n load) then owed ++ at ∷ [] else owed)
+
+  -- this half stands for what was received with this verdict on a part
+  abbrev HearsVerdict : Receiver → ℕ → ℕ → ℕ → List ℕ → Accept → Type 0
+  HearsVerdict s p floor at owed v =
+      Hears s (with_part v got.parts (p - r.peer) bytes) n floor
+      (if is_some (if is_taken v then Some r.peer else None) then owed ++ at ∷ [] else owed)
+
+  -- a part that was accepted, now or before, makes a telling owed
+  pub part_counted : (s : Receiver) (p floor at : ℕ) (owed : List ℕ) (v : Accept) → (v ≡ New) ⊎ (v ≡ Again)
+      → Hears s (with_part v got.parts (p - r.peer) bytes) n floor (owed ++ at ∷ []) → HearsVerdict s p floor at owed v
+  part_counted s p floor at owed v is h =
+      subst (λ b. Hears s (with_part v got.parts (p - r.peer) bytes) n floor
+          (if is_some (if b then Some r.peer else None) then owed ++ at ∷ [] else owed)) (sym (taken_is v is)) h
+
+  -- what was received with a part of this number and this verdict
+  pub part_stands : (s : Receiver) (low coded p floor at : ℕ) (owed : List ℕ) (v : Accept)
+      → Some p ≡ part_read (layout_in r wait own) got n low → v ≡ verdict 64 r.peer got.parts n p
+      → HearsVerdict s p floor at owed v
+      → (let layout = layout_in r wait own in let load = Carries low coded bytes in
+        Hears s (parts_with layout got n (arrival layout got n load)) n floor (if is_some (taken layout got n load) then owed ++ at ∷ [] else owed))
+  part_stands s low coded p floor at owed v read is h =
+      subst (HearsPart s floor at owed) read (subst (HearsVerdict s p floor at owed) is h)
+
+  -- a part with no number changes nothing
+  pub part_ignored : (low coded floor at : ℕ) (owed : List ℕ)
+      → None ≡ part_read (layout_in r wait own) got n low → Hears r got.parts n floor owed
+      → (let layout = layout_in r wait own in let load = Carries low coded bytes in
+        Hears r (parts_with layout got n (arrival layout got n load)) n floor (if is_some (taken layout got n load) then owed ++ at ∷ [] else owed))
+  part_ignored low coded floor at owed read h = subst (HearsPart r floor at owed) read h
