@@ -7,12 +7,14 @@ use Rattle.mt_windows.specs.declared.receive.Accept.TheVariants.{New, Again}
 use Rattle.mt_windows.specs.Arrived.{Parts, verdict, with_part}
 use Rattle.mt_windows.specs.ArrivedView.{Inbox, Receives}
 use Rattle.mt_windows.proofs.Order.{receives_next}
+use Rattle.carrier.specs.declared.state.Took.{Took}
 use Rattle.carrier.specs.declared.state.Took.TheVariants.{Used}
-use Rattle.carrier.specs.Layout.{Received, Carries, bounded}
+use Rattle.carrier.specs.Layout.{Load, Received, Shown, Carries, bounded}
 use Rattle.carrier.specs.Law.{answer_by, answer_load, answer_to}
-use Rattle.carrier.specs.Receiving.{arrival, arrival_of, is_taken, part_read, parts_with, taken, taken_of}
-use Rattle.udp1_core.specs.FirstLayout.{flags_from}
-use Rattle.udp1_core.specs.ReceiverView.{Hears, Receiver, layout_in}
+use Rattle.carrier.specs.Receiving.{arrival, arrival_of, floor_of, floor_shown, is_taken, owes, part_read, parts_with, receives, taken, taken_of}
+use Rattle.udp1_core.specs.declared.receiver.Load.{Load as CodeLoad}
+use Rattle.udp1_core.specs.FirstLayout.{flags_from, named_of}
+use Rattle.udp1_core.specs.ReceiverView.{Hears, Receiver, layout_in, load_of}
 
 -- ---- the flags that are told
 
@@ -42,6 +44,67 @@ with_window v r w parts more n m floor owed same h receives =
 pub kept_window : (v r : Receiver) (parts : Parts) (n floor : ℕ) (owed : List ℕ) → v ≡ r → Hears r parts n floor owed → Receives v.inbox r.peer parts n
 kept_window v r parts n floor owed same h = subst (λ x. Receives x.inbox r.peer parts n) (sym same) h.receives
 
+-- ---- what a datagram carries, and the floor that it shows
+
+module _ (r : Receiver) (wait own n : ℕ) (got : Received) where
+
+  -- a number is read near the next part
+  pub part_is : (low floor : ℕ) (owed : List ℕ) → Hears r got.parts n floor owed
+      → bounded (2 ^ 62) (nearest (2 ^ 32) (r.inbox.first + r.inbox.passed) low) ≡ part_read (layout_in r wait own) got n low
+  part_is low floor owed h =
+      ap (λ m. bounded (2 ^ 62) (nearest (2 ^ 32) m low)) (receives_next r.inbox r.peer got.parts n h.receives)
+
+  -- the answer to what is carried
+  pub load_answered : (coded : ℕ) (load same : CodeLoad) (took : Took) → load ≡ same
+      → took ≡ answer_load (layout_in r wait own) got n (load_of coded same) → took ≡ answer_load (layout_in r wait own) got n (load_of coded load)
+  load_answered coded load same took is answer = answer ∙ ap (λ l. answer_load (layout_in r wait own) got n (load_of coded l)) (sym is)
+
+  -- this half stands for what was received with this load
+  abbrev pub HearsLoad : Receiver → ℕ → ℕ → List ℕ → Load → Type 0
+  HearsLoad s floor at owed load =
+      let layout = layout_in r wait own in
+      Hears s (parts_with layout got n (arrival layout got n load)) n floor (if is_some (taken layout got n load) then owed ++ at ∷ [] else owed)
+
+  -- the same half stands for the same
+  pub load_stands : (s same : Receiver) (floor at : ℕ) (owed : List ℕ) (coded : ℕ) (load as_said : CodeLoad) → s ≡ same → load ≡ as_said
+      → HearsLoad same floor at owed (load_of coded as_said) → HearsLoad s floor at owed (load_of coded load)
+  load_stands s same floor at owed coded load as_said is said h =
+      subst (λ x. HearsLoad x floor at owed (load_of coded load)) (sym is)
+      (subst (λ l. HearsLoad same floor at owed (load_of coded l)) (sym said) h)
+
+  -- the floor that is read
+  abbrev pub floor_low : Option ℕ → Option ℕ
+  floor_low None = None
+  floor_low (Some low) = part_read (layout_in r wait own) got n low
+
+  floor_by : (shown : Shown) (after : Received) (old : ℕ) (low floor : Option ℕ) → floor ≡ floor_low low
+      → floor_of (named_of r.peer after.parts) old floor ≡ floor_shown (layout_in r wait own) got n after old (Some (record shown { floor = low }))
+  floor_by shown after old None floor is = ap (floor_of (named_of r.peer after.parts) old) is
+  floor_by shown after old (Some low) floor is = ap (floor_of (named_of r.peer after.parts) old) is
+
+  -- what a floor that was read comes to
+  floor_is : (shown : Shown) (after : Received) (old : ℕ) (low floor : Option ℕ) → shown.floor ≡ low → floor ≡ floor_low low
+      → floor_of (named_of r.peer after.parts) old floor ≡ floor_shown (layout_in r wait own) got n after old (Some shown)
+  floor_is shown after old low floor same is =
+      floor_by shown after old low floor is
+      ∙ sym (ap (λ q. floor_shown (layout_in r wait own) got n after old (Some (record shown { floor = q }))) same)
+
+  -- what was received with what was shown, where `s` stands for what was carried, and raises its floor
+  pub shown_stands : (s t : Receiver) (shown : Shown) (load : Load) (low floor : Option ℕ) (old at : ℕ) (owed : List ℕ)
+      → shown.load ≡ load → shown.floor ≡ low → floor ≡ floor_low low → s.peer ≡ r.peer → HearsLoad s old at owed load
+      → ((parts : Parts) (n old : ℕ) (owed : List ℕ) → Hears s parts n old owed → Hears t parts n (floor_of (named_of s.peer parts) old floor) owed)
+      → (let layout = layout_in r wait own in
+        let after = receives layout got n (Some shown) in
+        Hears t after.parts n (floor_shown layout got n after old (Some shown)) (if owes layout got n (Some shown) then owed ++ at ∷ [] else owed))
+  shown_stands s t shown load low floor old at owed carries shows read peer h raises =
+      let layout = layout_in r wait own in
+      let after = receives layout got n (Some shown) in
+      let counted = if owes layout got n (Some shown) then owed ++ at ∷ [] else owed in
+      let carried : Hears s after.parts n old counted = subst (HearsLoad s old at owed) (sym carries) h in
+      let floors : floor_of (named_of s.peer after.parts) old floor ≡ floor_shown layout got n after old (Some shown) =
+          ap (λ p. floor_of (named_of p after.parts) old floor) peer ∙ floor_is shown after old low floor shows read in
+      subst (λ f. Hears t after.parts n f counted) floors (raises after.parts n old counted carried)
+
 -- ---- a part that is taken
 
 -- a part that was accepted, now or before, is taken
@@ -55,12 +118,6 @@ used_is v (inl e) = sym (ap answer_by e)
 used_is v (inr e) = sym (ap answer_by e)
 
 module _ (r : Receiver) (wait own n : ℕ) (got : Received) (bytes : List ℕ) where
-
-  -- a number is read near the next part
-  pub part_is : (low floor : ℕ) (owed : List ℕ) → Hears r got.parts n floor owed
-      → bounded (2 ^ 62) (nearest (2 ^ 32) (r.inbox.first + r.inbox.passed) low) ≡ part_read (layout_in r wait own) got n low
-  part_is low floor owed h =
-      ap (λ m. bounded (2 ^ 62) (nearest (2 ^ 32) m low)) (receives_next r.inbox r.peer got.parts n h.receives)
 
   -- the answer to a part with this number and this verdict
   pub part_answered : (low coded p : ℕ) (v : Accept) → Some p ≡ part_read (layout_in r wait own) got n low → v ≡ verdict 64 r.peer got.parts n p
