@@ -1,6 +1,10 @@
 -- What a machine hears: the flags that it tells, the window that it keeps, and the parts that it takes.
-use Rattle.std.proofs.Common.{◌≡◌, ℕ, zero, suc, ◌+◌, ◌-◌, ◌<◌, ◌^◌, ◌⊎◌, inl, inr, Bool, true, false, List, [], ◌∷◌, ◌++◌, length, get_or, Option, Some, None, is_some, refl, sym, ap, ◌∙◌, subst, arith}
+use Rattle.std.proofs.Common.{◌≡◌, ℕ, zero, suc, ◌+◌, ◌-◌, ◌<◌, ◌≤◌, ◌^◌, ◌⊎◌, inl, inr, Bool, true, false, List, [], ◌∷◌, ◌++◌, length, get_or, take, drop, All, Option, Some, None, is_some, refl, sym, ap, ◌∙◌, subst, arith}
 use Rattle.std.specs.Prelude.{if◌then◌else◌}
+use Rattle.std.proofs.Math.Seq.{take-append_seam}
+use Rattle.ack_vector.specs.Elements.{IsGood}
+use Rattle.ack_vector.specs.Longest.{elements_of}
+use Rattle.ack_vector.proofs.LongestLemmas.{holds, holds_length, holds_spell}
 use Rattle.mt_base.specs.Nearness.{nearest}
 use Rattle.mt_windows.specs.declared.receive.Accept.{Accept}
 use Rattle.mt_windows.specs.declared.receive.Accept.TheVariants.{New, Again}
@@ -30,6 +34,23 @@ flags_are has from (suc n) (flag ∷ flags) size say =
     ap (λ f. f ∷ flags) first
     ∙ ap (λ fs. has from ∷ fs) (flags_are has (from + 1) n flags (omega (arith, size))
         (λ k less. let there : from + suc k ≡ from + 1 + k = omega arith in say (suc k) (omega (arith, less)) ∙ ap has there))
+
+-- the elements of at most 64 flags have a place
+pub elements_fit : (flags : List Bool) → length flags ≤ 64 → length (elements_of flags) ≤ 64
+elements_fit flags short = omega (arith, holds_length (elements_of flags) flags (holds flags), short)
+
+-- what was written is at the front
+pub written_front : (n : ℕ) (bytes out new : List ℕ) → (n ≡ length bytes) × (new ≡ bytes ++ drop n out) → take n new ≡ bytes
+written_front n bytes out new is =
+    ap (take n) is.1 ∙ ap (λ m. take m (bytes ++ drop n out)) is.0 ∙ take-append_seam bytes (drop n out)
+
+-- the elements that are written are good
+pub elements_good : (flags : List Bool) → All IsGood (elements_of flags)
+elements_good flags = (holds_spell (elements_of flags) flags (holds flags)).good
+
+-- flags of the numbers that are told
+pub told_flags : (has : ℕ → Bool) (from told count size : ℕ) (flags : List Bool) → from ≡ told → count ≡ size → flags ≡ flags_from has from count → flags ≡ flags_from has told size
+told_flags has from told count size flags e f is = is ∙ ap (λ m. flags_from has m count) e ∙ ap (flags_from has told) f
 
 -- ---- the window
 
