@@ -1,7 +1,8 @@
 -- What a machine hears: the flags that it tells, the window that it keeps, and the parts that it takes.
-use Rattle.std.proofs.Common.{◌≡◌, ℕ, zero, suc, ◌+◌, ◌-◌, ◌<◌, ◌≤◌, ◌^◌, ◌⊎◌, inl, inr, Bool, true, false, List, [], ◌∷◌, ◌++◌, length, get_or, take, drop, All, Option, Some, None, is_some, refl, sym, ap, ◌∙◌, subst, arith}
+use Rattle.std.proofs.Common.{◌≡◌, ℕ, zero, suc, ◌+◌, ◌-◌, ◌<◌, ◌≤◌, ◌^◌, ◌⊎◌, inl, inr, Bool, true, false, List, [], ◌∷◌, ◌++◌, length, get_or, take, drop, All, Option, Some, None, is_some, option_map, refl, sym, ap, ◌∙◌, subst, arith}
 use Rattle.std.specs.Prelude.{if◌then◌else◌}
 use Rattle.std.proofs.Math.Seq.{take-append_seam}
+use Rattle.std.proofs.lemmas.Bool.Decides.{nat_tests}
 use Rattle.ack_vector.specs.Elements.{IsGood}
 use Rattle.ack_vector.specs.Longest.{elements_of}
 use Rattle.ack_vector.proofs.LongestLemmas.{holds, holds_length, holds_spell}
@@ -17,8 +18,11 @@ use Rattle.carrier.specs.Layout.{Load, Received, Shown, Carries, bounded}
 use Rattle.carrier.specs.Law.{answer_by, answer_load, answer_to}
 use Rattle.carrier.specs.Receiving.{arrival, arrival_of, floor_of, floor_shown, is_taken, owes, part_read, parts_with, receives, taken, taken_of}
 use Rattle.udp1_core.specs.declared.receiver.Load.{Load as CodeLoad}
-use Rattle.udp1_core.specs.FirstLayout.{flags_from, named_of}
-use Rattle.udp1_core.specs.ReceiverView.{Hears, Receiver, layout_in, load_of}
+use Rattle.udp1_packets.specs.Layout.{spelled}
+use Rattle.udp1_packets.specs.Value.{Packet}
+use Rattle.udp1_core.specs.declared.numbers.Numbers.{Numbers}
+use Rattle.udp1_core.specs.FirstLayout.{flags_from, low, named_of, packet_with, telling_of, vector_in}
+use Rattle.udp1_core.specs.ReceiverView.{Hears, Receiver, head_body, head_of, layout_in, load_of, Owes, tells_with}
 
 -- ---- the flags that are told
 
@@ -33,7 +37,7 @@ flags_are has from (suc n) (flag ∷ flags) size say =
     let first : flag ≡ has from = say 0 (omega arith) ∙ ap has here in
     ap (λ f. f ∷ flags) first
     ∙ ap (λ fs. has from ∷ fs) (flags_are has (from + 1) n flags (omega (arith, size))
-        (λ k less. let there : from + suc k ≡ from + 1 + k = omega arith in say (suc k) (omega (arith, less)) ∙ ap has there))
+    (λ k less. let there : from + suc k ≡ from + 1 + k = omega arith in say (suc k) (omega (arith, less)) ∙ ap has there))
 
 -- the elements of at most 64 flags have a place
 pub elements_fit : (flags : List Bool) → length flags ≤ 64 → length (elements_of flags) ≤ 64
@@ -52,6 +56,41 @@ elements_good flags = (holds_spell (elements_of flags) flags (holds flags)).good
 pub told_flags : (has : ℕ → Bool) (from told count size : ℕ) (flags : List Bool) → from ≡ told → count ≡ size → flags ≡ flags_from has from count → flags ≡ flags_from has told size
 told_flags has from told count size flags e f is = is ∙ ap (λ m. flags_from has m count) e ∙ ap (flags_from has told) f
 
+-- ---- the datagram up to its data
+
+-- the packet of these parts
+abbrev pub head_with : ℕ → Option (List ℕ) → Option ℕ → Option Numbers → Packet
+head_with y vector aoa numbers = record { ack = low y; window = 64; marks = 0; body = head_body vector aoa numbers }
+
+-- the packet of these parts is that of the layout
+pub head_is : (peer : ℕ) (parts : Parts) (old : ℕ) (owed : List ℕ) (above : Option ℕ) (numbers : Option Numbers) (y : ℕ) (vector : Option (List ℕ))
+    → y ≡ named_of peer parts → vector ≡ vector_in (tells_with numbers owed) (telling_of peer old parts)
+    → head_with y vector (option_map low above) numbers ≡ packet_with (head_of peer parts old owed above numbers)
+head_is peer parts old owed above None y vector named tells =
+    ap (λ m. head_with m vector (option_map low above) None) named ∙ ap (λ v. head_with (named_of peer parts) v (option_map low above) None) tells
+head_is peer parts old owed above (Some n) y vector named tells =
+    ap (λ m. head_with m vector (option_map low above) (Some n)) named ∙ ap (λ v. head_with (named_of peer parts) v (option_map low above) (Some n)) tells
+
+-- what was received is told where no part is carried
+pub tells_alone : (numbers : Option Numbers) (owed : List ℕ) → is_some numbers ≡ false → tells_with numbers owed ≡ true
+tells_alone None owed none = refl
+tells_alone (Some n) owed none = absurd (cc)
+
+-- and where a telling is owed
+pub tells_owed : (numbers : Option Numbers) (count since : ℕ) (owed : List ℕ) → Owes count since owed → 0 < count → tells_with numbers owed ≡ true
+tells_owed None count since owed owes some = refl
+tells_owed (Some n) count since owed owes some = let enough = owes.count_is in grind (arith, nat_tests)
+
+-- and nowhere else
+pub tells_nothing : (numbers : Option Numbers) (count since : ℕ) (owed : List ℕ) → Owes count since owed → is_some numbers ≡ true → count ≤ 0 → tells_with numbers owed ≡ false
+tells_nothing None count since owed owes part few = absurd (cc)
+tells_nothing (Some n) count since owed owes part few = let none = owes.count_is in grind (arith, nat_tests)
+
+-- what was written of a packet is written of the same packet
+pub same_written : (p q : Packet) (n : ℕ) (out new : List ℕ) → p ≡ q → (n ≡ length (spelled p)) × (new ≡ spelled p ++ drop n out)
+    → (n ≡ length (spelled q)) × (new ≡ spelled q ++ drop n out)
+same_written p q n out new same is = subst (λ x. (n ≡ length (spelled x)) × (new ≡ spelled x ++ drop n out)) same is
+
 -- ---- the window
 
 -- with another window, for other parts or bytes
@@ -68,7 +107,6 @@ kept_window v r parts n floor owed same h = subst (λ x. Receives x.inbox r.peer
 -- ---- what a datagram carries, and the floor that it shows
 
 module _ (r : Receiver) (wait own n : ℕ) (got : Received) where
-
   -- a number is read near the next part
   pub part_is : (low floor : ℕ) (owed : List ℕ) → Hears r got.parts n floor owed
       → bounded (2 ^ 62) (nearest (2 ^ 32) (r.inbox.first + r.inbox.passed) low) ≡ part_read (layout_in r wait own) got n low
@@ -115,15 +153,15 @@ module _ (r : Receiver) (wait own n : ℕ) (got : Received) where
       → shown.load ≡ load → shown.floor ≡ low → floor ≡ floor_low low → s.peer ≡ r.peer → HearsLoad s old at owed load
       → ((parts : Parts) (n old : ℕ) (owed : List ℕ) → Hears s parts n old owed → Hears t parts n (floor_of (named_of s.peer parts) old floor) owed)
       → (let layout = layout_in r wait own in
-        let after = receives layout got n (Some shown) in
-        Hears t after.parts n (floor_shown layout got n after old (Some shown)) (if owes layout got n (Some shown) then owed ++ at ∷ [] else owed))
+      let after = receives layout got n (Some shown) in
+      Hears t after.parts n (floor_shown layout got n after old (Some shown)) (if owes layout got n (Some shown) then owed ++ at ∷ [] else owed))
   shown_stands s t shown load low floor old at owed carries shows read peer h raises =
       let layout = layout_in r wait own in
       let after = receives layout got n (Some shown) in
       let counted = if owes layout got n (Some shown) then owed ++ at ∷ [] else owed in
       let carried : Hears s after.parts n old counted = subst (HearsLoad s old at owed) (sym carries) h in
       let floors : floor_of (named_of s.peer after.parts) old floor ≡ floor_shown layout got n after old (Some shown) =
-          ap (λ p. floor_of (named_of p after.parts) old floor) peer ∙ floor_is shown after old low floor shows read in
+      ap (λ p. floor_of (named_of p after.parts) old floor) peer ∙ floor_is shown after old low floor shows read in
       subst (λ f. Hears t after.parts n f counted) floors (raises after.parts n old counted carried)
 
 -- ---- a part that is taken
@@ -139,7 +177,6 @@ used_is v (inl e) = sym (ap answer_by e)
 used_is v (inr e) = sym (ap answer_by e)
 
 module _ (r : Receiver) (wait own n : ℕ) (got : Received) (bytes : List ℕ) where
-
   -- the answer to a part with this number and this verdict
   pub part_answered : (low coded p : ℕ) (v : Accept) → Some p ≡ part_read (layout_in r wait own) got n low → v ≡ verdict 64 r.peer got.parts n p
       → answer_by v ≡ answer_load (layout_in r wait own) got n (Carries low coded bytes)
@@ -170,14 +207,14 @@ module _ (r : Receiver) (wait own n : ℕ) (got : Received) (bytes : List ℕ) w
       → Hears s (with_part v got.parts (p - r.peer) bytes) n floor (owed ++ at ∷ []) → HearsVerdict s p floor at owed v
   part_counted s p floor at owed v is h =
       subst (λ b. Hears s (with_part v got.parts (p - r.peer) bytes) n floor
-          (if is_some (if b then Some r.peer else None) then owed ++ at ∷ [] else owed)) (sym (taken_is v is)) h
+      (if is_some (if b then Some r.peer else None) then owed ++ at ∷ [] else owed)) (sym (taken_is v is)) h
 
   -- what was received with a part of this number and this verdict
   pub part_stands : (s : Receiver) (low coded p floor at : ℕ) (owed : List ℕ) (v : Accept)
       → Some p ≡ part_read (layout_in r wait own) got n low → v ≡ verdict 64 r.peer got.parts n p
       → HearsVerdict s p floor at owed v
       → (let layout = layout_in r wait own in let load = Carries low coded bytes in
-        Hears s (parts_with layout got n (arrival layout got n load)) n floor (if is_some (taken layout got n load) then owed ++ at ∷ [] else owed))
+      Hears s (parts_with layout got n (arrival layout got n load)) n floor (if is_some (taken layout got n load) then owed ++ at ∷ [] else owed))
   part_stands s low coded p floor at owed v read is h =
       subst (HearsPart s floor at owed) read (subst (HearsVerdict s p floor at owed) is h)
 
@@ -185,5 +222,5 @@ module _ (r : Receiver) (wait own n : ℕ) (got : Received) (bytes : List ℕ) w
   pub part_ignored : (low coded floor at : ℕ) (owed : List ℕ)
       → None ≡ part_read (layout_in r wait own) got n low → Hears r got.parts n floor owed
       → (let layout = layout_in r wait own in let load = Carries low coded bytes in
-        Hears r (parts_with layout got n (arrival layout got n load)) n floor (if is_some (taken layout got n load) then owed ++ at ∷ [] else owed))
+      Hears r (parts_with layout got n (arrival layout got n load)) n floor (if is_some (taken layout got n load) then owed ++ at ∷ [] else owed))
   part_ignored low coded floor at owed read h = subst (HearsPart r floor at owed) read h

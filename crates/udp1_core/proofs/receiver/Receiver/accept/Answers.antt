@@ -27,7 +27,7 @@ returns-in-Beyond-clause-stands c wait own coded got n floor owed h =
     (c.in-Some.ensures.read ∙ part_is c.args.self.now wait own n got c.args.start floor owed h)
     (c.in-Beyond.ensures.verdict c.args.self.now.peer got.parts n window)
     (with_window _ c.args.self.now c.accept.new.self got.parts got.parts n n floor owed c.self.view_is h
-        (c.in-Beyond.ensures.holds c.args.self.now.peer got.parts n window))
+    (c.in-Beyond.ensures.holds c.args.self.now.peer got.parts n window))
 
 pub returns-in-New-clause-answer : goal.returns-in-New-clause-answer
 returns-in-New-clause-answer c wait own coded got n floor owed h =
@@ -41,9 +41,9 @@ pub returns-in-New-clause-stands : goal.returns-in-New-clause-stands
 returns-in-New-clause-stands c wait own coded got n floor owed h =
     let window = kept_window _ c.args.self.now got.parts n floor owed c.self.view_is h in
     let kept = with_window _ c.args.self.now c.accept.new.self got.parts _ n n floor owed c.self.view_is h
-        (c.accept.ensures.holds c.args.self.now.peer got.parts n window) in
+    (c.accept.ensures.holds c.args.self.now.peer got.parts n window) in
     part_stands c.args.self.now wait own n got c.args.bytes.now c.owe.new.self c.args.start coded c.in-Some.part floor c.args.at owed c.accept.result
     (c.in-Some.ensures.read ∙ part_is c.args.self.now wait own n got c.args.start floor owed h)
     (c.accept.ensures.verdict c.args.self.now.peer got.parts n window)
     (part_counted c.args.self.now wait own n got c.args.bytes.now c.owe.new.self c.in-Some.part floor c.args.at owed c.accept.result c.in-New.is
-        (c.owe.ensures.stands _ n floor owed kept))
+    (c.owe.ensures.stands _ n floor owed kept))
