@@ -2,3 +2,8 @@ pub mod Spellings
 pub mod Shown
 pub mod ReadBack
 pub mod Receiving
+pub mod Sizes
+pub mod Carrying
+pub mod Told
+pub mod Headless
+pub mod Whole
