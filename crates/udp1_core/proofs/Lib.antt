@@ -7,3 +7,4 @@ pub mod Carrying
 pub mod Told
 pub mod Headless
 pub mod Whole
+pub mod Steps
