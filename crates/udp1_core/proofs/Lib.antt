@@ -1,6 +1,7 @@
 pub mod Spellings
 pub mod Shown
 pub mod ReadBack
+pub mod Receiving
 pub mod Sizes
 pub mod Carrying
 pub mod Told
