@@ -8,3 +8,4 @@ pub mod Told
 pub mod Headless
 pub mod Whole
 pub mod Steps
+pub mod Inputs
