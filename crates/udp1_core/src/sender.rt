@@ -5,8 +5,8 @@ ghost use Rattle.mt_base.specs.Trace.{Trace, Start, ◌▷◌};
 ghost use Rattle.mt_base.specs.Nearness.{nearest};
 ghost use Rattle.ack_vector.specs.Elements.{IsGood, flags_of};
 ghost use Rattle.mt_windows.specs.Sending.Act.{Gave, Cut, Resent};
-ghost use Rattle.mt_windows.specs.Sending.{Act, cuts, transmissions, next_piece, piece, lowest_or_next};
-ghost use Rattle.mt_windows.specs.SendingView.{limits, queued_of, reach_of, next_transmission, is_unsettled, may_cut_of};
+ghost use Rattle.mt_windows.specs.Sending.{Act, cuts, transmissions, next_piece, piece, lowest, lowest_or_next, settles_part, tells_part};
+ghost use Rattle.mt_windows.specs.SendingView.{Sends, limits, queued_of, reach_of, next_transmission, is_unsettled, may_cut_of};
 ghost use Rattle.carrier.specs.Layout.{Telling, Upto, bounded, tells, read_near};
 ghost use Rattle.carrier.specs.Sending.{Timer, hears_telling, expiry, is_over, is_waiting, expires, settles, tell_all, told_reference, timer_told};
 ghost use Rattle.carrier.specs.Due.{may_send};
@@ -119,7 +119,8 @@ impl Sender {
 
     /// Whether more expiries came in a row than a link survives.
     pub fn is_closed(&self) -> bool
-        ensures { (delay peer : ℕ) → result ≡ is_over (layout_out self.now delay peer) self.now.timer }
+        ensures over { (delay peer : ℕ) → result ≡ is_over (layout_out self.now delay peer) self.now.timer }
+        ensures value { result ≡ nat_lt 16 self.now.timer.expiries }
     {
         EXPIRIES < self.expiries
     }
@@ -148,7 +149,7 @@ impl Sender {
         ensures own { self.new.own ≡ self.old.own }
         ensures wait { self.new.wait ≡ self.old.wait }
         ensures queued { queued_of self.new.outbox ≤ queued_of self.old.outbox }
-        ensures closed { 16 < self.old.timer.expiries → 16 < self.new.timer.expiries }
+        ensures open { self.old.timer.expiries ≤ 16 → self.new.timer.expiries ≤ 16 }
     {
         self.told = u64::from(window);
         let Some(elements) = vector else {
@@ -177,17 +178,32 @@ impl Sender {
     {
         let mut settled = false;
         for part in self.window.floor_part()..self.window.last_cut() + 1 {
-            if told(elements, named, part) == Some(true) && self.window.tell_part(part) {
+            if self.settle_part(named, elements, part) {
                 settled = true;
             }
         }
         settled
     }
 
+    /// Takes the part as received where it is told so; whether it became settled.
+    fn settle_part(&mut self, named: u64, elements: &[u8], part: u64) -> bool
+        requires { All IsGood elements.now }
+        ensures settled { (first : ℕ) (acts : Trace Act) → Sends self.old.outbox first acts →
+            result ≡ tells (Upto named (flags_of elements.now)) part && settles_part limits first acts part }
+        ensures sends { (first : ℕ) (acts : Trace Act) → Sends self.old.outbox first acts →
+            Sends self.new.outbox first (if tells (Upto named (flags_of elements.now)) part then tells_part first part acts else acts) }
+        ensures own { self.new.own ≡ self.old.own }
+        ensures wait { self.new.wait ≡ self.old.wait }
+        ensures told { self.new.told ≡ self.old.told }
+        ensures timer { self.new.timer ≡ self.old.timer }
+        ensures queued { queued_of self.new.outbox ≤ queued_of self.old.outbox }
+    {
+        told(elements, named, part).unwrap_or(false) && self.window.tell_part(part)
+    }
+
     /// Whether a part is unsettled.
     fn is_waiting(&self) -> bool
-        ensures { (delay peer : ℕ) (acts : Trace Act) (told : ℕ) (timer : Timer) → Speaks self.now acts told timer →
-            result ≡ is_waiting (layout_out self.now delay peer) acts }
+        ensures { (first : ℕ) (acts : Trace Act) → Sends self.now.outbox first acts → result ≡ is_some (lowest limits acts) }
     {
         self.window.lowest().is_some()
     }
