@@ -41,7 +41,7 @@ there_if false f (Some n) = refl
 -- what is sent first, by its cases
 pub choices : (expired may : Bool) (own low : ℕ) (passed : Option ℕ) (new : Choice)
     → cond may (again_or (cond expired (Some (own + low)) (option_map (λ p. own + p) passed)) new) new
-        ≡ cond (expired && may) (Again (own + low)) (cond (is_some passed && may) (Again (own + unwrap_or passed 0)) new)
+    ≡ cond (expired && may) (Again (own + low)) (cond (is_some passed && may) (Again (own + unwrap_or passed 0)) new)
 choices true true own low passed new = refl
 choices true false own low None new = refl
 choices true false own low (Some p) new = refl

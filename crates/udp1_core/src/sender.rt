@@ -179,9 +179,7 @@ impl Sender {
     {
         let mut settled = false;
         for part in self.window.floor_part()..self.window.last_cut() + 1 {
-            if self.settle_part(named, elements, part) {
-                settled = true;
-            }
+            settled |= self.settle_part(named, elements, part);
         }
         settled
     }
