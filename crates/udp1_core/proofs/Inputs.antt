@@ -1,5 +1,5 @@
 -- What a datagram that comes does to a machine, by what is read of it.
-use Rattle.std.proofs.Common.{◌≡◌, ℕ, zero, suc, ◌+◌, ◌≤◌, ◌<◌, Bool, true, false, nat_lt, max, List, [], ◌∷◌, ◌++◌, length, Option, Some, None, All, refl, sym, ap, ap₂, ◌∙◌, subst, arith, length-append, if◌then◌else◌}
+use Rattle.std.proofs.Common.{◌≡◌, ℕ, zero, suc, ◌+◌, ◌≤◌, ◌<◌, Bool, true, false, nat_lt, max, List, [], ◌∷◌, ◌++◌, length, Option, Some, None, All, refl, sym, ap, ap₂, ◌∙◌, subst, arith, lt-ltb, le-ltb, length-append, if◌then◌else◌}
 use Rattle.std.specs.Result.{IfOk, IfErr}
 use Rattle.mt_base.specs.Trace.{Trace, ◌▷◌}
 use Rattle.mt_base.specs.Writing.{joined}
@@ -17,6 +17,7 @@ use Rattle.carrier.specs.Layout.{Layout, Received, Reading, Refuses, Shows, Show
 use Rattle.carrier.specs.Receiving.{Arrival, arrival, verdict_on, transmission_read, receives, received, accepted, effect, has_effect, shown_in, reading, floor, floor_shown, owed, owes, peer_window, window_shown}
 use Rattle.carrier.specs.Sending.{acts, hears, timer, timer_told, is_closed}
 use Rattle.carrier.specs.Law.{answered, answer_load, answer_reading, answer_to, answer_by, answer_dummy}
+use Rattle.udp1_core.specs.FirstLayout.{shows}
 use Rattle.udp1_core.specs.ContentsView.{BodyFits}
 use Rattle.udp1_core.specs.ReceiverView.{Receiver, Hears}
 use Rattle.udp1_core.specs.SenderView.{Sender, Speaks}
@@ -60,6 +61,14 @@ refused_none layout took datagram why is = either (has_effect took) ∙ ap shown
   either : (b : Bool) → (if b then shown_in (reading layout datagram) else None) ≡ shown_in (reading layout datagram)
   either true = refl
   either false = sym (ap shown_in is)
+
+-- ---- readings
+
+pub long_read : (m : Machine) (datagram : List ℕ) → 1232 < length datagram → reading (layout_of m) datagram ≡ Refuses reason.TooLong
+long_read m datagram long = ap (λ b. if b then Refuses reason.TooLong else shows datagram) (lt-ltb 1232 (length datagram) long)
+
+pub short_read : (m : Machine) (datagram : List ℕ) (x : Reading) → length datagram ≤ 1232 → shows datagram ≡ x → reading (layout_of m) datagram ≡ x
+short_read m datagram x short is = ap (λ b. if b then Refuses reason.TooLong else shows datagram) (le-ltb 1232 (length datagram) short) ∙ is
 
 -- ---- calls
 
