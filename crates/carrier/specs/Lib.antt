@@ -7,3 +7,4 @@ pub mod Law
 pub mod States
 pub mod LayoutLaw
 pub mod Joined
+pub mod TwoLinks

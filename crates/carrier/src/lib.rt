@@ -13,12 +13,14 @@ mod lossy;
 mod reliable;
 mod second_layout;
 mod state;
+mod two_links;
 
 pub use first_layout::Refusal1;
 pub use lossy::{Post, PostRefusal};
 pub use reliable::{Carrier, GiveRefusal};
 pub use second_layout::Refusal2;
 pub use state::{LinkState, Reason, Took};
+pub use two_links::joined_links;
 
 #[cfg(test)]
 mod tests;

@@ -1,0 +1,4 @@
+-- The proof of the law of two joined links.
+pub mod Numbers
+pub mod Parts
+pub mod Invariant

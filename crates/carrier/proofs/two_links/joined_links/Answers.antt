@@ -1,0 +1,19 @@
+use Rattle.carrier.proofs.links.Numbers.{below_lowest}
+use Rattle.carrier.proofs.links.Parts.{passed_front}
+use Rattle.carrier.proofs.links.Invariant.{Way}
+use Rattle.carrier.proofs.two_links.joined_links.Goals as goal
+
+pub returns-clause-read : goal.returns-clause-read
+returns-clause-read c = ?
+
+pub returns-clause-arrive : goal.returns-clause-arrive
+returns-clause-arrive c = ?
+
+pub returns-clause-prefix : goal.returns-clause-prefix
+returns-clause-prefix c = ?
+
+pub returns-clause-apart : goal.returns-clause-apart
+returns-clause-apart c = ?
+
+pub returns-clause-ahead : goal.returns-clause-ahead
+returns-clause-ahead c = ?
