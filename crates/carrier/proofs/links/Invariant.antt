@@ -1,6 +1,6 @@
 -- What holds between a sender and a receiver, and of the datagrams under way, of which the ages are
 -- known: `k` datagrams were sent on the link since.
-use Rattle.std.proofs.Common.{◌≡◌, ℕ, ◌+◌, ◌-◌, ◌<◌, ◌≤◌, ◌⊎◌, Bool, true, List, All, Option, Some, None, is_some}
+use Rattle.std.proofs.Common.{◌≡◌, ℕ, ◌+◌, ◌-◌, ◌<◌, ◌≤◌, ◌⊎◌, Bool, true, List, length, All, Option, Some, None, is_some}
 use Rattle.mt_base.specs.Trace.{Trace}
 use Rattle.mt_windows.specs.Arrived.{Parts, part_at, drained, end_of}
 use Rattle.mt_windows.specs.Sending.{Act, Limits, cuts, given, is_open, piece, settled}
@@ -12,6 +12,7 @@ pub record Even (l : Limits) (own : ℕ) (a : Trace Act) : Type 0 where
   pub window : (p : ℕ) → is_open l a p ≡ true → cuts a ≤ p + l.window
   pub numbers : own + cuts a ≤ l.numbers
   pub bytes : All (λ b. b < 256) (given a)
+  pub pieces : (p : ℕ) → (length (piece l a p) ≤ l.part) × All (λ b. b < 256) (piece l a p)
 
 -- ---- the two ends now
 

@@ -97,3 +97,11 @@ settled_cut l a p h less = by_value (settled l a p) refl
     by_value : (b : Bool) → settled l a p ≡ b → settled l a p ≡ true
     by_value true e = e
     by_value false e = absurd (let o = open_from l a p less e in cc)
+
+-- the lowest unsettled part is one, or all are settled
+pub lowest_or_all : (l : Limits) (a : Trace Act) → (is_open l a (lowest_or_next l a) ≡ true) ⊎ (cuts a ≤ lowest_or_next l a)
+lowest_or_all l a = of_least (lowest l a) (least_cases (is_open l a) (cuts a))
+  where
+    of_least : (o : Option ℕ) → Least (is_open l a) (cuts a) o → (is_open l a (unwrap_or o (cuts a)) ≡ true) ⊎ (cuts a ≤ unwrap_or o (cuts a))
+    of_least o (Absent e none) = inr (subst (λ x. cuts a ≤ unwrap_or x (cuts a)) (sym e) (omega arith))
+    of_least o (Found k e kl yes' none) = inl (subst (λ x. is_open l a (unwrap_or x (cuts a)) ≡ true) (sym e) yes')
