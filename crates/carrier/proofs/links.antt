@@ -3,3 +3,5 @@ pub mod Numbers
 pub mod Parts
 pub mod Invariant
 pub mod Steps
+pub mod Facing
+pub mod Sends

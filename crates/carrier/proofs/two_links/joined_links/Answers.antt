@@ -1,3 +1,4 @@
+use Rattle.carrier.proofs.links.Sends.{outcome}
 use Rattle.carrier.proofs.links.Steps.{way_sends}
 use Rattle.carrier.proofs.links.Numbers.{below_lowest}
 use Rattle.carrier.proofs.links.Parts.{passed_front}
