@@ -18,6 +18,7 @@ use Rattle.carrier.specs.Due.{telling_with, with_part, own_floor, again, fresh, 
 use Rattle.carrier.specs.LayoutLaw.{IsLayout, IsCarried, shown_of, low_part}
 use Rattle.carrier.proofs.links.Invariant.{Even, Flies, FliesLoad, Low, LowFloor, Grown}
 use Rattle.carrier.proofs.links.Numbers.{open_cut, open_unsettled, open_from, lowest_open, lowest_le, lowest_within, below_lowest, passed_open}
+use Rattle.carrier.proofs.links.Steps.{stays, cuts_within}
 use Rattle.carrier.proofs.links.Facing.{Facing, some_half, nearest_is}
 
 -- ---- which datagrams there are
@@ -148,3 +149,83 @@ cut_even l own a window some may h =
     open_q : (q : ℕ) → is_open l (a ▷ Cut) q ≡ true → cuts a < lowest_or_next l a + l.window → (q < cuts a) ⊎ (cuts a ≤ q) → cuts a + 1 ≤ q + l.window
     open_q q is room (inl less) = omega (arith, room, lowest_le l a q (open_from l a q less (open_unsettled l (a ▷ Cut) q is)))
     open_q q is room (inr ge) = omega (arith, some, ge)
+
+-- ---- all that a poll sends
+
+module _ (late : ℕ) (l m : Layout) (t : Trace Entry) (f : Facing late l m) (h : Even l.bounds.windows l.own (acts l t)) where
+  says_again : (p : ℕ) (b : Bool) → is_open l.bounds.windows (acts l t) p ≡ true
+      → (let d = telling_with l t (Some (l.own + lowest_or_next l.bounds.windows (acts l t))) (Some (record { part = l.own + p; transmission = l.own + transmissions (acts l t); bytes = piece l.bounds.windows (acts l t) p })) b in
+      Says l t d (sends l (acts l t) (l.read (l.spell d))))
+  says_again p b is =
+      let a = acts l t in
+      let c : Carried = record { part = l.own + p; transmission = l.own + transmissions a; bytes = piece l.bounds.windows a p } in
+      let shows = f.here.read_back (received l t) (floor l t) b (Some (l.own + lowest_or_next l.bounds.windows a)) (Some c) (h.pieces p) in
+      let cut = open_cut l.bounds.windows a p is in
+      let near = h.window p is in
+      let room = f.two_windows in
+      let number = nearest_is l f.half (l.own + cuts a) (l.own + p) f.here_modulus (some_half late l m f) (omega arith) (omega (arith, cut)) in
+      let other' : eqb (l.own + p) (l.own + cuts a) ≡ false = grind (arith, nat_tests) in
+      let place : l.own + p - l.own ≡ p = omega arith in
+      let moves : sends l a (Shows (shown_of l (telling_with l t (Some (l.own + lowest_or_next l.bounds.windows a)) (Some c) b))) ≡ a ▷ Resent p =
+          ap (sends_part l a) number ∙ ap (λ x. cond x (a ▷ Cut) (a ▷ Resent (l.own + p - l.own))) other' ∙ ap (λ q. a ▷ Resent q) place in
+      let low = lowest_le l.bounds.windows a p is in
+      record {
+        shows = shows;
+        fits = f.here.fits (received l t) (floor l t) b (Some (l.own + lowest_or_next l.bounds.windows a)) (Some c) (h.pieces p);
+        telling = refl;
+        grown = subst (λ s. Grown l.bounds.windows a s) (sym (ap (sends l a) shows ∙ moves)) (resent_grown l.bounds.windows a p);
+        load = subst (λ s. Flies l.bounds.windows l.own 0 s c) (sym (ap (sends l a) shows ∙ moves))
+            (record { place = p; number = refl; cut = cut; bytes = refl; near = omega (arith, near) });
+        low = subst (λ s. Low l.bounds.windows l.own 0 s (l.own + lowest_or_next l.bounds.windows a)) (sym (ap (sends l a) shows ∙ moves))
+            (record {
+              place = lowest_or_next l.bounds.windows a;
+              number = refl;
+              cut = omega (arith, low, cut);
+              below = λ q less. below_lowest l.bounds.windows a q less;
+              near = omega (arith, cuts_within l.bounds.windows l.own a h);
+            });
+        even = subst (λ s. Even l.bounds.windows l.own s) (sym (ap (sends l a) shows ∙ moves)) (resent_even l.bounds.windows l.own a p h);
+      }
+
+  says_new : (b : Bool) → may_cut l.bounds.windows l.own (acts l t) (peer_window l t) ≡ true
+      → (let d = telling_with l t None (Some (record { part = l.own + cuts (acts l t); transmission = l.own + transmissions (acts l t); bytes = next_piece l.bounds.windows (acts l t) })) b in
+      Says l t d (sends l (acts l t) (l.read (l.spell d))))
+  says_new b may =
+      let a = acts l t in
+      let c : Carried = record { part = l.own + cuts a; transmission = l.own + transmissions a; bytes = next_piece l.bounds.windows a } in
+      let carried = next_fits l.bounds.windows a h.bytes in
+      let shows = f.here.read_back (received l t) (floor l t) b None (Some c) carried in
+      let some = some_half late l m f in
+      let number = nearest_is l f.half (l.own + cuts a) (l.own + cuts a) f.here_modulus some (omega arith) (omega (arith, some)) in
+      let same : eqb (l.own + cuts a) (l.own + cuts a) ≡ true = grind (arith, nat_tests) in
+      let moves : sends l a (Shows (shown_of l (telling_with l t None (Some c) b))) ≡ a ▷ Cut =
+          ap (sends_part l a) number ∙ ap (λ x. cond x (a ▷ Cut) (a ▷ Resent (l.own + cuts a - l.own))) same in
+      record {
+        shows = shows;
+        fits = f.here.fits (received l t) (floor l t) b None (Some c) carried;
+        telling = refl;
+        grown = subst (λ s. Grown l.bounds.windows a s) (sym (ap (sends l a) shows ∙ moves)) (cut_grown l.bounds.windows l.own a);
+        load = subst (λ s. Flies l.bounds.windows l.own 0 s c) (sym (ap (sends l a) shows ∙ moves))
+            (record { place = cuts a; number = refl; cut = omega arith; bytes = sym (piece_next l.bounds.windows a); near = omega (arith, f.some_window) });
+        low = tt;
+        even = subst (λ s. Even l.bounds.windows l.own s) (sym (ap (sends l a) shows ∙ moves)) (cut_even l.bounds.windows l.own a (peer_window l t) f.some_window may h);
+      }
+
+  says_bare : Says l t (telling_with l t None None true) (sends l (acts l t) (l.read (l.spell (telling_with l t None None true))))
+  says_bare =
+      let a = acts l t in
+      let shows = f.here.read_back (received l t) (floor l t) true None None tt in
+      record {
+        shows = shows;
+        fits = f.here.fits (received l t) (floor l t) true None None tt;
+        telling = refl;
+        grown = subst (λ s. Grown l.bounds.windows a s) (sym (ap (sends l a) shows)) (stays l.bounds.windows a);
+        load = tt;
+        low = tt;
+        even = subst (λ s. Even l.bounds.windows l.own s) (sym (ap (sends l a) shows)) h;
+      }
+
+  pub says : (d : Datagram) → Outcome l t d → Says l t d (sends l (acts l t) (l.read (l.spell d)))
+  says d (Repeats p b is e) = subst (λ x. Says l t x (sends l (acts l t) (l.read (l.spell x)))) (sym e) (says_again p b is)
+  says d (Extends b may e) = subst (λ x. Says l t x (sends l (acts l t) (l.read (l.spell x)))) (sym e) (says_new b may)
+  says d (Tells e) = subst (λ x. Says l t x (sends l (acts l t) (l.read (l.spell x)))) (sym e) says_bare
