@@ -5,3 +5,5 @@ pub mod Invariant
 pub mod Steps
 pub mod Facing
 pub mod Sends
+pub mod Hears
+pub mod Reading

@@ -1,3 +1,5 @@
+use Rattle.carrier.proofs.links.Hears.{with_own}
+use Rattle.carrier.proofs.links.Reading.{told_now}
 use Rattle.carrier.proofs.links.Sends.{outcome}
 use Rattle.carrier.proofs.links.Steps.{way_sends}
 use Rattle.carrier.proofs.links.Numbers.{below_lowest}
