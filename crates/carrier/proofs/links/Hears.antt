@@ -5,20 +5,19 @@ use Rattle.std.proofs.lemmas.Bool.Decides.{nat_tests}
 use Rattle.mt_base.specs.Trace.{Trace, Start, ◌▷◌}
 use Rattle.mt_windows.specs.Arrived.{Parts, part_at}
 use Rattle.mt_windows.specs.Sending.Act.{ToldPart}
-use Rattle.mt_windows.specs.Sending.{Act, Limits, cuts, settled}
+use Rattle.mt_windows.specs.Sending.{Act, Limits, cuts, given, settled}
 use Rattle.mt_windows.proofs.Pieces.{or_true}
 use Rattle.carrier.specs.Layout.{Layout, Telling, Upto, From, named_in, with_named}
 use Rattle.carrier.specs.Sending.{tell_parts}
 use Rattle.carrier.proofs.links.Invariant.{Hears}
 
 pub hears_nothing : (l : Limits) (a : Trace Act) (parts : Parts) → Hears l a a parts
-hears_nothing l a parts = record { cuts_are = refl; pieces_are = λ p. refl; given_is = refl; keeps = λ p is. is; told = λ p is. inl is }
+hears_nothing l a parts = record { cuts_are = refl; pieces_are = λ p. refl; keeps = λ p is. is; told = λ p is. inl is }
 
 pub hears_more : (l : Limits) (a b : Trace Act) (parts : Parts) (q : ℕ) → Hears l a b parts → is_some (part_at parts q) ≡ true → Hears l a (b ▷ ToldPart q) parts
 hears_more l a b parts q h there = record {
   cuts_are = h.cuts_are;
   pieces_are = h.pieces_are;
-  given_is = h.given_is;
   keeps = λ p is. ap (λ x. x || (eqb p q && ltb q (cuts b))) (h.keeps p is);
   told = λ p is. of_told p (or_true (settled l b p) (eqb p q && ltb q (cuts b)) is);
 }
@@ -38,6 +37,14 @@ hears_parts l told from (suc n) a parts h = by_test (hears_parts l told from n a
     by_test : Hears l a (tell_parts told from n a) parts → (b : Bool) → told (from + n) ≡ b → Hears l a (cond b (tell_parts told from n a ▷ ToldPart (from + n)) (tell_parts told from n a)) parts
     by_test rest true e = hears_more l a (tell_parts told from n a) parts (from + n) rest (h (from + n) e)
     by_test rest false e = rest
+
+pub tell_given : (told : ℕ → Bool) (from n : ℕ) (a : Trace Act) → given (tell_parts told from n a) ≡ given a
+tell_given told from zero a = refl
+tell_given told from (suc n) a = by_test (tell_given told from n a) (told (from + n))
+  where
+    by_test : given (tell_parts told from n a) ≡ given a → (b : Bool) → given (cond b (tell_parts told from n a ▷ ToldPart (from + n)) (tell_parts told from n a)) ≡ given a
+    by_test rest true = rest
+    by_test rest false = rest
 
 -- ---- the number that is named
 

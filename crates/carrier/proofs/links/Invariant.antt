@@ -73,12 +73,12 @@ pub record Grown (l : Limits) (a b : Trace Act) : Type 0 where
   pub most : cuts b ≤ cuts a + 1
   pub same : (p : ℕ) → p < cuts a → piece l b p ≡ piece l a p
   pub settles : (p : ℕ) → settled l b p ≡ settled l a p
+  pub given_is : given b ≡ given a
 
 -- some of these parts were settled
 pub record Hears (l : Limits) (a b : Trace Act) (parts : Parts) : Type 0 where
   pub cuts_are : cuts b ≡ cuts a
   pub pieces_are : (p : ℕ) → piece l b p ≡ piece l a p
-  pub given_is : given b ≡ given a
   pub keeps : (p : ℕ) → settled l a p ≡ true → settled l b p ≡ true
   pub told : (p : ℕ) → settled l b p ≡ true → (settled l a p ≡ true) ⊎ (is_some (part_at parts p) ≡ true)
 

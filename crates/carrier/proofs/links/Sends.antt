@@ -126,7 +126,7 @@ cut_facts l first a window h =
 -- ---- a part that is sent again
 
 resent_grown : (l : Limits) (a : Trace Act) (p : ℕ) → Grown l a (a ▷ Resent p)
-resent_grown l a p = record { more = omega arith; most = omega arith; same = λ q less. refl; settles = λ q. refl }
+resent_grown l a p = record { more = omega arith; most = omega arith; same = λ q less. refl; settles = λ q. refl; given_is = refl }
 
 resent_even : (l : Limits) (own : ℕ) (a : Trace Act) (p : ℕ) → Even l own a → Even l own (a ▷ Resent p)
 resent_even l own a p h = record { window = h.window; numbers = h.numbers; bytes = h.bytes; pieces = h.pieces }
@@ -134,7 +134,7 @@ resent_even l own a p h = record { window = h.window; numbers = h.numbers; bytes
 -- ---- a part that is new
 
 cut_grown : (l : Limits) (own : ℕ) (a : Trace Act) → Grown l a (a ▷ Cut)
-cut_grown l own a = record { more = omega arith; most = omega arith; same = λ q less. piece_before l a q less; settles = λ q. refl }
+cut_grown l own a = record { more = omega arith; most = omega arith; same = λ q less. piece_before l a q less; settles = λ q. refl; given_is = refl }
 
 cut_even : (l : Limits) (own : ℕ) (a : Trace Act) (window : ℕ) → 0 < l.window → may_cut l own a window ≡ true → Even l own a → Even l own (a ▷ Cut)
 cut_even l own a window some may h =

@@ -38,7 +38,7 @@ pub told_on : (l : Limits) (own k : ℕ) (a b : Trace Act) (parts : Parts) (t : 
 told_on l own k a b parts t g h = record { got = h.got; within = h.within; near = omega (arith, h.near, g.most) }
 
 pub stays : (l : Limits) (a : Trace Act) → Grown l a a
-stays l a = record { more = omega arith; most = omega arith; same = λ p less. refl; settles = λ p. refl }
+stays l a = record { more = omega arith; most = omega arith; same = λ p less. refl; settles = λ p. refl; given_is = refl }
 
 pub follows_sends : (l : Limits) (a b : Trace Act) (parts : Parts) (n : ℕ) → Grown l a b → Follows l a parts n → Follows l b parts n
 follows_sends l a b parts n g h = record {
@@ -131,11 +131,11 @@ way_hears l own a b parts n S R h g = record {
     of_told p (inl e) = h.now.got p e
     of_told p (inr e) = e
 
-pub even_hears : (l : Limits) (own : ℕ) (a b : Trace Act) (parts : Parts) → Hears l a b parts → Even l own a → Even l own b
-even_hears l own a b parts g h = record {
+pub even_hears : (l : Limits) (own : ℕ) (a b : Trace Act) (parts : Parts) → Hears l a b parts → given b ≡ given a → Even l own a → Even l own b
+even_hears l own a b parts g is_given h = record {
   window = λ p is. let cut = open_cut l b p is in omega (arith, g.cuts_are, h.window p (open_from l a p (omega (arith, cut, g.cuts_are)) (was (settled l a p) p refl is)));
   numbers = omega (arith, g.cuts_are, h.numbers);
-  bytes = subst (All (λ b. b < 256)) (sym g.given_is) h.bytes;
+  bytes = subst (All (λ b. b < 256)) (sym is_given) h.bytes;
   pieces = λ p. subst (λ xs. (length xs ≤ l.part) × All (λ b. b < 256) xs) (sym (g.pieces_are p)) (h.pieces p);
 }
   where
