@@ -7,3 +7,4 @@ pub mod Facing
 pub mod Sends
 pub mod Hears
 pub mod Reading
+pub mod Ends
