@@ -8,3 +8,5 @@ pub mod Sends
 pub mod Hears
 pub mod Reading
 pub mod Ends
+pub mod Meant
+pub mod Whole

@@ -1,3 +1,4 @@
+use Rattle.carrier.proofs.links.Whole.{server_step}
 use Rattle.carrier.proofs.links.Ends.{polls}
 use Rattle.carrier.proofs.links.Hears.{with_own}
 use Rattle.carrier.proofs.links.Reading.{told_now}
