@@ -1,12 +1,14 @@
 -- What one call at one end does to both directions.
-use Rattle.std.proofs.Common.{◌≡◌, ℕ, zero, suc, ◌+◌, ◌-◌, ◌<◌, ◌≤◌, ◌⊎◌, inl, inr, Bool, true, false, ltb, cond, List, ◌++◌, length, All, Option, Some, None, is_some, option_map, refl, sym, ap, ◌∙◌, subst, arith, length-append}
+use Rattle.std.proofs.Common.{◌≡◌, ℕ, zero, suc, ◌+◌, ◌-◌, ◌<◌, ◌≤◌, ◌⊎◌, inl, inr, Bool, true, false, ltb, cond, List, [], ◌++◌, length, All, Option, Some, None, is_some, option_map, refl, sym, ap, ◌∙◌, subst, append_assoc, arith, length-append}
 use Rattle.std.proofs.lemmas.Bool.{cases_lt}
 use Rattle.std.proofs.lemmas.Bool.Decides.{nat_tests}
-use Rattle.std.proofs.lemmas.List.Elements.{All-append}
+use Rattle.std.proofs.lemmas.List.Elements.{All-append, All-nil}
 use Rattle.mt_base.specs.Trace.{Trace, Start, ◌▷◌}
 use Rattle.mt_windows.specs.Sending.Act.{Gave as GaveBytes}
-use Rattle.mt_windows.specs.Arrived.{Parts, part_at}
-use Rattle.mt_windows.specs.Sending.{Act, given as given_to, cuts, transmissions, is_open, settled, lowest_or_next}
+use Rattle.mt_windows.specs.Arrived.{Parts, part_at, passed}
+use Rattle.mt_windows.specs.Sending.{Act, given as given_to, cuts, transmissions, pieces, piece, waiting, is_open, settled, lowest_or_next}
+use Rattle.mt_windows.proofs.Counts.{pieces_count}
+use Rattle.mt_windows.proofs.Pieces.{pieces_and_rest}
 use Rattle.carrier.specs.declared.state.Took.{Took}
 use Rattle.carrier.specs.declared.state.Reason.{Reason}
 use Rattle.carrier.specs.declared.state.Reason.TheVariants as reason
@@ -17,6 +19,8 @@ use Rattle.carrier.specs.Sending.{acts, sends, hears, hears_named, hears_telling
 use Rattle.carrier.specs.Due.{meant, due}
 use Rattle.carrier.specs.LayoutLaw.{IsLayout, shown_of, load_shown, telling_shown, low_part}
 use Rattle.carrier.proofs.links.Invariant.{Even, Follows, Flies, FliesLoad, Low, LowFloor, Told, Way, Grown, Hears, Accepts}
+use Rattle.carrier.proofs.links.Numbers.{open_cut}
+use Rattle.carrier.proofs.links.Parts.{some_at, passed_front}
 use Rattle.carrier.proofs.links.Steps.{way_sends, way_tells, way_hears, even_hears, takes, way_takes, way_pulls}
 use Rattle.carrier.proofs.links.Facing.{Facing, same_window}
 use Rattle.carrier.proofs.links.Sends.{Says, says, outcome}
@@ -175,12 +179,12 @@ hears_telling_is late l m t u k telling true f even now soon h =
     let a = acts l t in
     let shown = with_named (low_part m (named_in telling)) telling in
     let number : read_near l (told_reference l a) (named_in shown) ≡ Some (named_in telling) =
-        ap (read_near l (told_reference l a)) (named_with (low_part m (named_in telling)) telling)
-        ∙ named_is late l m f a (received m u) (length (pulled u)) k even now soon telling h in
+    ap (read_near l (told_reference l a)) (named_with (low_part m (named_in telling)) telling)
+    ∙ named_is late l m f a (received m u) (length (pulled u)) k even now soon telling h in
     let meant_is : with_named (named_in telling) shown ≡ telling = with_again (named_in telling) (low_part m (named_in telling)) telling ∙ with_own telling in
     let all : tell_all l a (tells telling) ≡ tell_parts (λ p. tells telling (l.own + p)) (lowest_or_next l.bounds.windows a) (cuts a - lowest_or_next l.bounds.windows a) a =
-        ap (λ b. cond b (tell_parts (λ p. tells telling (l.own + p)) (lowest_or_next l.bounds.windows a) (cuts a - lowest_or_next l.bounds.windows a) a)
-        (tell_transmissions (λ j. tells telling (l.own + j)) (transmissions a - l.bounds.windows.span) (transmissions a - (transmissions a - l.bounds.windows.span)) a)) f.here_tells in
+    ap (λ b. cond b (tell_parts (λ p. tells telling (l.own + p)) (lowest_or_next l.bounds.windows a) (cuts a - lowest_or_next l.bounds.windows a) a)
+    (tell_transmissions (λ j. tells telling (l.own + j)) (transmissions a - l.bounds.windows.span) (transmissions a - (transmissions a - l.bounds.windows.span)) a)) f.here_tells in
     let same = ap (hears_named l a shown) number ∙ ap (λ x. tell_all l a (tells x)) meant_is ∙ all in (
       subst (λ b. Hears l.bounds.windows a b (accepted m u)) (sym same)
           (hears_parts l.bounds.windows (λ p. tells telling (l.own + p)) (lowest_or_next l.bounds.windows a) (cuts a - lowest_or_next l.bounds.windows a) a (accepted m u)
@@ -277,3 +281,49 @@ came late l m took datagram R U g means timely = by_length (cases_lt (length dat
         let in_time = timely ge in
         let f = means in_time.0 datagram in_time.2 in
         of_took in_time.0 f.0 in_time.1 f.1 (reading_is late l m f.0 datagram g f.2) (has_effect took)
+
+-- ---- the beginning, and what follows for one direction
+
+pub even_start : (late : ℕ) (l m : Layout) → Facing late l m → Even l.bounds.windows l.own Start
+even_start late l m f = record {
+  window = λ p is. absurd (let less = open_cut l.bounds.windows Start p is in omega (arith, less));
+  numbers = omega (arith, f.numbers);
+  bytes = All-nil (λ b. b < 256);
+  pieces = λ p. (omega arith, All-nil (λ b. b < 256));
+}
+
+pub way_start : (l m : Layout) (S R : ℕ → Datagram → Type 0) → ((k : ℕ) (f : Datagram) → S k f → ⊥) → ((k : ℕ) (f : Datagram) → R k f → ⊥) → Way l.bounds.windows l.own Start [] 0 S R
+way_start l m S R none never = record {
+  now = record { same = λ p bytes is. absurd (cc); got = λ p is. absurd (cc); room = omega arith };
+  loads = λ k f s. absurd (none k f s);
+  floors = λ k f s. absurd (none k f s);
+  tellings = λ k f r. absurd (never k f r);
+}
+
+pub both_start : (late : ℕ) (l m : Layout) (S R : ℕ → Datagram → Type 0) (T U : ℕ → List ℕ → Type 0) → Facing late l m → Facing late m l → ((k : ℕ) (f : Datagram) → S k f → ⊥) → ((k : ℕ) (f : Datagram) → R k f → ⊥)
+    → ((k : ℕ) (d : List ℕ) → T k d → ⊥) → ((k : ℕ) (d : List ℕ) → U k d → ⊥) → Both l m Start Start S R T U
+both_start late l m S R T U f g no_s no_r no_t no_u = record {
+  out = way_start l m S R no_s no_r;
+  back = way_start m l R S no_r no_s;
+  here = even_start late l m f;
+  there = even_start late m l g;
+  given_here = refl;
+  given_there = refl;
+  means_here = λ k d t. absurd (no_t k d t);
+  means_there = λ k d u. absurd (no_u k d u);
+}
+
+-- what is settled arrived, with the same bytes
+pub settled_arrived : (l m : Layout) (t u : Trace Entry) (S R : ℕ → Datagram → Type 0) (T U : ℕ → List ℕ → Type 0) (p : ℕ) → Both l m t u S R T U → settled l.bounds.windows (acts l t) p ≡ true → part_at (accepted m u) p ≡ Some (piece l.bounds.windows (acts l t) p)
+settled_arrived l m t u S R T U p h is =
+    let there = some_at (accepted m u) p (h.out.now.got p is) in
+    there.1 ∙ ap Some (h.out.now.same p there.0 there.1).1
+
+-- what was passed is the beginning of what was given
+pub passed_given : (l m : Layout) (t u : Trace Entry) (S R : ℕ → Datagram → Type 0) (T U : ℕ → List ℕ → Type 0) → Both l m t u S R T U → (more : List ℕ) × (given t ≡ passed (accepted m u) ++ more)
+passed_given l m t u S R T U h =
+    let a = acts l t in
+    let front = passed_front (accepted m u) (pieces l.bounds.windows a) (λ p bytes is. let same = h.out.now.same p bytes is in (omega (arith, same.0, pieces_count l.bounds.windows a), same.1)) in (
+      front.0 ++ waiting l.bounds.windows a,
+      sym h.given_here ∙ sym (pieces_and_rest l.bounds.windows a) ∙ ap (λ xs. xs ++ waiting l.bounds.windows a) front.1 ∙ append_assoc (passed (accepted m u)) front.0 (waiting l.bounds.windows a),
+    )

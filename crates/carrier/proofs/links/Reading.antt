@@ -73,7 +73,7 @@ module _ (late : ℕ) (l m : Layout) (f : Facing late l m) (a : Trace Act) (r : 
   pub arrives : (c : Carried) → Flies l.bounds.windows l.own k a c → arrival m r n (Carries (low_part l c.part) (low_part l c.transmission) c.bytes) ≡ Some (record { part = c.part; transmission = m.peer; bytes = c.bytes })
   arrives c h =
       let any : transmission_read m r (low_part l c.transmission) ≡ Some m.peer =
-          ap (λ b. cond b (Some m.peer) (read_near m (last_seen m r) (low_part l c.transmission))) f.there_tells in
+      ap (λ b. cond b (Some m.peer) (read_near m (last_seen m r) (low_part l c.transmission))) f.there_tells in
       ap (λ o. arrival_of o (transmission_read m r (low_part l c.transmission)) c.bytes) (part_is c h) ∙ ap (λ o. arrival_of (Some c.part) o c.bytes) any
 
   -- the floor

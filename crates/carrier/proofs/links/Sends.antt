@@ -63,14 +63,14 @@ outcome l t at d tells h = by_closed (is_closed l t || closes l t at) h
 
     by_expiry : (b : Bool) → expires l (timer l t) (acts l t) at && may_send l (acts l t) ≡ b
         → cond b (Some (again l t (lowest_or_next l.bounds.windows (acts l t))))
-          (cond (is_some (passed_over l.bounds.windows (acts l t)) && may_send l (acts l t)) (Some (again l t (unwrap_or (passed_over l.bounds.windows (acts l t)) 0)))
-          (cond (may_cut l.bounds.windows l.own (acts l t) (peer_window l t)) (Some (fresh l t)) (bare l t at))) ≡ Some d → Outcome l t d
+        (cond (is_some (passed_over l.bounds.windows (acts l t)) && may_send l (acts l t)) (Some (again l t (unwrap_or (passed_over l.bounds.windows (acts l t)) 0)))
+        (cond (may_cut l.bounds.windows l.own (acts l t) (peer_window l t)) (Some (fresh l t)) (bare l t at))) ≡ Some d → Outcome l t d
     by_expiry true is e = repeats _ (lowest_open l.bounds.windows (acts l t) (waits is)) e
     by_expiry false is e = by_over (is_some (passed_over l.bounds.windows (acts l t)) && may_send l (acts l t)) refl e
 
     by_closed : (b : Bool) → cond b None (cond (expires l (timer l t) (acts l t) at && may_send l (acts l t)) (Some (again l t (lowest_or_next l.bounds.windows (acts l t))))
-          (cond (is_some (passed_over l.bounds.windows (acts l t)) && may_send l (acts l t)) (Some (again l t (unwrap_or (passed_over l.bounds.windows (acts l t)) 0)))
-          (cond (may_cut l.bounds.windows l.own (acts l t) (peer_window l t)) (Some (fresh l t)) (bare l t at)))) ≡ Some d → Outcome l t d
+        (cond (is_some (passed_over l.bounds.windows (acts l t)) && may_send l (acts l t)) (Some (again l t (unwrap_or (passed_over l.bounds.windows (acts l t)) 0)))
+        (cond (may_cut l.bounds.windows l.own (acts l t) (peer_window l t)) (Some (fresh l t)) (bare l t at)))) ≡ Some d → Outcome l t d
     by_closed true e = absurd (cc)
     by_closed false e = by_expiry (expires l (timer l t) (acts l t) at && may_send l (acts l t)) refl e
 
@@ -167,7 +167,7 @@ module _ (late : ℕ) (l m : Layout) (t : Trace Entry) (f : Facing late l m) (h 
       let other' : eqb (l.own + p) (l.own + cuts a) ≡ false = grind (arith, nat_tests) in
       let place : l.own + p - l.own ≡ p = omega arith in
       let moves : sends l a (Shows (shown_of l (telling_with l t (Some (l.own + lowest_or_next l.bounds.windows a)) (Some c) b))) ≡ a ▷ Resent p =
-          ap (sends_part l a) number ∙ ap (λ x. cond x (a ▷ Cut) (a ▷ Resent (l.own + p - l.own))) other' ∙ ap (λ q. a ▷ Resent q) place in
+      ap (sends_part l a) number ∙ ap (λ x. cond x (a ▷ Cut) (a ▷ Resent (l.own + p - l.own))) other' ∙ ap (λ q. a ▷ Resent q) place in
       let low = lowest_le l.bounds.windows a p is in
       record {
         shows = shows;
@@ -199,7 +199,7 @@ module _ (late : ℕ) (l m : Layout) (t : Trace Entry) (f : Facing late l m) (h 
       let number = nearest_is l f.half (l.own + cuts a) (l.own + cuts a) f.here_modulus some (omega arith) (omega (arith, some)) in
       let same : eqb (l.own + cuts a) (l.own + cuts a) ≡ true = grind (arith, nat_tests) in
       let moves : sends l a (Shows (shown_of l (telling_with l t None (Some c) b))) ≡ a ▷ Cut =
-          ap (sends_part l a) number ∙ ap (λ x. cond x (a ▷ Cut) (a ▷ Resent (l.own + cuts a - l.own))) same in
+      ap (sends_part l a) number ∙ ap (λ x. cond x (a ▷ Cut) (a ▷ Resent (l.own + cuts a - l.own))) same in
       record {
         shows = shows;
         fits = f.here.fits (received l t) (floor l t) b None (Some c) carried;
