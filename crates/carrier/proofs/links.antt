@@ -8,5 +8,6 @@ pub mod Sends
 pub mod Hears
 pub mod Reading
 pub mod Ends
+pub mod Pulled
 pub mod Meant
 pub mod Whole

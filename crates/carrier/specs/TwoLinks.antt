@@ -86,6 +86,10 @@ abbrev pub PassedWasGiven : (Role → Layout) → Trace Step → Role → Type 0
 PassedWasGiven layouts w s =
     (more : List ℕ) × (given (half s w) ≡ passed (accepted (layouts (other s)) (half (other s) w)) ++ more)
 
+-- so is what it pulled
+abbrev pub PulledWasGiven : (Role → Layout) → Trace Step → Role → Type 0
+PulledWasGiven layouts w s = (more : List ℕ) × (given (half s w) ≡ pulled (half (other s) w) ++ more)
+
 -- no part below the lowest unsettled one is missing at the other end
 abbrev pub LowestArrived : (Role → Layout) → Trace Step → Role → Type 0
 LowestArrived layouts w s =

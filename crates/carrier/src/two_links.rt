@@ -5,17 +5,19 @@ ghost use Rattle.mt_base.specs.declared.kinds.Role.{Role};
 ghost use Rattle.mt_base.specs.Trace.{Trace};
 ghost use Rattle.carrier.specs.Joined.{Step};
 ghost use Rattle.carrier.specs.Layout.{Layout};
-ghost use Rattle.carrier.specs.TwoLinks.{AllRead, CutsNear, LowestArrived, Net, PassedWasGiven, SettledArrive};
+ghost use Rattle.carrier.specs.TwoLinks.{AllRead, CutsNear, LowestArrived, Net, PassedWasGiven, PulledWasGiven, SettledArrive};
 
 /// Two ends whose layouts tell parts, joined by a network that loses, copies and reorders datagrams
 /// and makes none, and that brings none too late: each datagram is read as it was meant, whatever
 /// numbers share its low parts; a part that is settled at one end was accepted at the other, with
-/// the same bytes; and the bytes that one end passed are the first of those that the other was
-/// given. The parts that were cut never run more than two windows ahead of those that were drained.
+/// the same bytes; and the bytes that one end passed, or pulled, are the first of those that the
+/// other was given. No part below the lowest unsettled one is missing at the other end, and the
+/// parts that were cut never run more than two windows ahead of those that were drained.
 pub fn joined_links()
     ensures read { (late : ℕ) (layouts : Role → Layout) (w : Trace Step) → Net late layouts w → AllRead late layouts w }
     ensures arrive { (late : ℕ) (layouts : Role → Layout) (w : Trace Step) → Net late layouts w → (s : Role) → SettledArrive layouts w s }
     ensures prefix { (late : ℕ) (layouts : Role → Layout) (w : Trace Step) → Net late layouts w → (s : Role) → PassedWasGiven layouts w s }
+    ensures pulled { (late : ℕ) (layouts : Role → Layout) (w : Trace Step) → Net late layouts w → (s : Role) → PulledWasGiven layouts w s }
     ensures apart { (late : ℕ) (layouts : Role → Layout) (w : Trace Step) → Net late layouts w → (s : Role) → LowestArrived layouts w s }
     ensures ahead { (late : ℕ) (layouts : Role → Layout) (w : Trace Step) → Net late layouts w → (s : Role) → CutsNear layouts w s }
 {}

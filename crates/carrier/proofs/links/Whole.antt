@@ -4,16 +4,17 @@ use Rattle.mt_base.specs.declared.kinds.Role.{Role}
 use Rattle.mt_base.specs.declared.kinds.Role.TheVariants.{Server, Client}
 use Rattle.mt_base.specs.Ends.{other}
 use Rattle.mt_base.specs.Trace.{Trace, Start, ◌▷◌}
-use Rattle.carrier.specs.Entries.{Entry, Gave, In, Polled, Pulled, Owed, Posted, Next, pulled}
+use Rattle.carrier.specs.Entries.{Entry, Gave, In, Polled, Pulled, Owed, Posted, Next, given, pulled}
 use Rattle.carrier.specs.Layout.{Layout, Datagram}
 use Rattle.carrier.specs.Law.{Faithful}
 use Rattle.carrier.specs.Receiving.{received, accepted}
 use Rattle.carrier.specs.Sending.{acts}
 use Rattle.carrier.specs.Due.{meant}
 use Rattle.carrier.specs.Joined.{Step, At, half, SentAgo, MeantAgo, Timely}
-use Rattle.carrier.specs.TwoLinks.{Margins, Net, Reads, AllRead, SettledArrive, PassedWasGiven, LowestArrived, CutsNear}
+use Rattle.carrier.specs.TwoLinks.{Margins, Net, Reads, AllRead, SettledArrive, PassedWasGiven, PulledWasGiven, LowestArrived, CutsNear}
 use Rattle.carrier.proofs.links.Facing.{Facing, facing}
 use Rattle.carrier.proofs.links.Ends.{Both, Later, both_start, swap, gives, pulls, same_ends, polls, comes, came, settled_arrived, passed_given}
+use Rattle.carrier.proofs.links.Pulled.{pulled_then}
 use Rattle.carrier.proofs.links.Steps.{lowest_arrived}
 use Rattle.carrier.proofs.links.Reading.{cut_near}
 use Rattle.carrier.proofs.links.Meant.{meant_is}
@@ -186,6 +187,10 @@ module _ (late : ℕ) (layouts : Role → Layout) (margins : Margins late layout
   pub prefix : (w : Trace Step) → Ends w → (s : Role) → PassedWasGiven layouts w s
   prefix w h Server = passed_given (layouts Server) (layouts Client) (half Server w) (half Client w) (MeantAgo layouts Server w) (MeantAgo layouts Client w) (SentAgo Server w) (SentAgo Client w) h
   prefix w h Client = passed_given (layouts Client) (layouts Server) (half Client w) (half Server w) (MeantAgo layouts Client w) (MeantAgo layouts Server w) (SentAgo Client w) (SentAgo Server w) (turn w h)
+
+  pub pulled_too : (w : Trace Step) → ((s : Role) → Faithful (layouts s) (half s w)) → Ends w → (s : Role) → PulledWasGiven layouts w s
+  pulled_too w laws h Server = let front = prefix w h Server in pulled_then (layouts Client) (half Client w) (given (half Server w)) front.0 (laws Client) front.1
+  pulled_too w laws h Client = let front = prefix w h Client in pulled_then (layouts Server) (half Server w) (given (half Client w)) front.0 (laws Server) front.1
 
   pub apart : (w : Trace Step) → Ends w → (s : Role) → LowestArrived layouts w s
   apart w h Server = λ p less. lowest_arrived (layouts Server).bounds.windows (acts (layouts Server) (half Server w)) (accepted (layouts Client) (half Client w)) (length (pulled (half Client w))) p h.out.now less
