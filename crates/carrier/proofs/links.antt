@@ -11,3 +11,4 @@ pub mod Ends
 pub mod Pulled
 pub mod Meant
 pub mod Whole
+pub mod Small

@@ -8,3 +8,4 @@ pub mod States
 pub mod LayoutLaw
 pub mod Joined
 pub mod TwoLinks
+pub mod SmallWorld

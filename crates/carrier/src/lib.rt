@@ -20,7 +20,7 @@ pub use lossy::{Post, PostRefusal};
 pub use reliable::{Carrier, GiveRefusal};
 pub use second_layout::Refusal2;
 pub use state::{LinkState, Reason, Took};
-pub use two_links::joined_links;
+pub use two_links::{a_small_world, joined_links};
 
 #[cfg(test)]
 mod tests;
