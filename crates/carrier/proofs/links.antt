@@ -8,6 +8,7 @@ pub mod Sends
 pub mod Hears
 pub mod Reading
 pub mod Ends
+pub mod Comes
 pub mod Pulled
 pub mod Meant
 pub mod Whole

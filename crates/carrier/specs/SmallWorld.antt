@@ -1,13 +1,13 @@
 -- A small layout, and two ends with it that meet what the law of two joined links asks of them.
-use Rattle.std.specs.Prelude.{◌≡◌, ℕ, ◌+◌, ◌-◌, ◌%◌, ◌==◌, Bool, true, false, List, [], ◌∷◌, ◌++◌, if◌then◌else◌, Option, Some, None, unwrap_or}
+use Rattle.std.specs.Prelude.{ℕ, ◌-◌, ◌%◌, ◌==◌, Bool, true, List, [], ◌∷◌, ◌++◌, if◌then◌else◌, Option, Some, None, unwrap_or}
 use Rattle.mt_base.specs.declared.kinds.Role.{Role}
 use Rattle.mt_base.specs.declared.kinds.Role.TheVariants.{Server, Client}
 use Rattle.mt_base.specs.Trace.{Trace, Start, ◌▷◌}
 use Rattle.mt_windows.specs.Arrived.{Parts, greatest_part, has_part}
 use Rattle.carrier.specs.declared.state.Reason.TheVariants as reason
 use Rattle.carrier.specs.declared.state.Took.TheVariants.{Used}
-use Rattle.carrier.specs.Entries.{Entry, Gave, In, Polled, Pulled}
-use Rattle.carrier.specs.Layout.{Layout, Received, Reading, Refuses, Shows, Shown, Load, Empty, Carries, Telling, Upto, From, Datagram, Carried, named_in}
+use Rattle.carrier.specs.Entries.{Gave, In, Polled, Pulled}
+use Rattle.carrier.specs.Layout.{Layout, Reading, Refuses, Shows, Load, Empty, Carries, Telling, Upto, Datagram, Carried, named_in}
 use Rattle.carrier.specs.Joined.{Step, At}
 
 -- ---- a datagram: a byte for each thing that it shows, and the bytes of its part

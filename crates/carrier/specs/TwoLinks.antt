@@ -1,12 +1,12 @@
 -- What holds of two joined ends whose layouts tell parts.
-use Rattle.std.specs.Prelude.{◌≡◌, ℕ, ◌+◌, ◌*◌, ◌<◌, ◌≤◌, Bool, true, List, ◌++◌, length, Option, Some, None, is_some}
+use Rattle.std.specs.Prelude.{◌≡◌, ℕ, ◌+◌, ◌*◌, ◌<◌, ◌≤◌, true, List, ◌++◌, length, Option, Some, None, is_some}
 use Rattle.mt_base.specs.declared.kinds.Role.{Role}
 use Rattle.mt_base.specs.Ends.{other}
 use Rattle.mt_base.specs.Trace.{Trace, Start, ◌▷◌}
 use Rattle.mt_windows.specs.Arrived.{part_at, passed, drained}
 use Rattle.mt_windows.specs.Sending.{cuts, lowest_or_next, piece, settled}
 use Rattle.carrier.specs.Entries.{Entry, In, given, pulled}
-use Rattle.carrier.specs.Layout.{Layout, Reading, Shows, Shown, Load, Telling, Datagram, Carried, named_in, with_named, read_near}
+use Rattle.carrier.specs.Layout.{Layout, Shows, Shown, Load, Telling, Datagram, Carried, named_in, with_named, read_near}
 use Rattle.carrier.specs.Receiving.{reading, received, accepted, arrival, floor_read, Arrival}
 use Rattle.carrier.specs.Sending.{acts, told_reference}
 use Rattle.carrier.specs.Law.{Faithful}
@@ -61,6 +61,7 @@ FloorRead layout t (Some low) meant = floor_read layout (received layout t) (len
 pub record Reads (layout : Layout) (t : Trace Entry) (datagram : List ℕ) (meant : Datagram) : Type 0 where
   pub shown : Shown
   pub shows : reading layout datagram ≡ Shows shown
+  pub window : shown.window ≡ Some layout.bounds.windows.window
   pub load : LoadRead layout t shown.load meant.load
   pub tells : is_some shown.telling ≡ meant.tells
   pub telling : TellingRead layout t shown.telling meant.telling

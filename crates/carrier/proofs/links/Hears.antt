@@ -1,13 +1,13 @@
 -- What a telling does to the sender that hears it.
-use Rattle.std.proofs.Common.{◌≡◌, ℕ, zero, suc, ◌+◌, ◌-◌, ◌<◌, ◌≤◌, ◌⊎◌, inl, inr, Bool, true, false, eqb, ltb, cond, ◌||◌, ◌&&◌, is_some, refl, sym, ap, ◌∙◌, subst, arith}
+use Rattle.std.proofs.Common.{◌≡◌, ℕ, zero, suc, ◌+◌, ◌⊎◌, inl, inr, Bool, true, false, eqb, ltb, cond, ◌||◌, ◌&&◌, is_some, refl, ap, ◌∙◌, arith}
 use Rattle.std.proofs.lemmas.Bool.{and_parts}
 use Rattle.std.proofs.lemmas.Bool.Decides.{nat_tests}
-use Rattle.mt_base.specs.Trace.{Trace, Start, ◌▷◌}
+use Rattle.mt_base.specs.Trace.{Trace, ◌▷◌}
 use Rattle.mt_windows.specs.Arrived.{Parts, part_at}
 use Rattle.mt_windows.specs.Sending.Act.{ToldPart}
 use Rattle.mt_windows.specs.Sending.{Act, Limits, cuts, given, settled}
 use Rattle.mt_windows.proofs.Pieces.{or_true}
-use Rattle.carrier.specs.Layout.{Layout, Telling, Upto, From, named_in, with_named}
+use Rattle.carrier.specs.Layout.{Telling, Upto, From, named_in, with_named}
 use Rattle.carrier.specs.Sending.{tell_parts}
 use Rattle.carrier.proofs.links.Invariant.{Hears}
 

@@ -1,6 +1,6 @@
 -- What holds between a sender and a receiver, and of the datagrams under way, of which the ages are
 -- known: `k` datagrams were sent on the link since.
-use Rattle.std.proofs.Common.{◌≡◌, ℕ, ◌+◌, ◌-◌, ◌<◌, ◌≤◌, ◌⊎◌, Bool, true, List, length, All, Option, Some, None, is_some}
+use Rattle.std.proofs.Common.{◌≡◌, ℕ, ◌+◌, ◌-◌, ◌<◌, ◌≤◌, ◌⊎◌, true, List, length, All, Option, Some, None, is_some}
 use Rattle.mt_base.specs.Trace.{Trace}
 use Rattle.mt_windows.specs.Arrived.{Parts, part_at, drained, end_of}
 use Rattle.mt_windows.specs.Sending.{Act, Limits, cuts, given, is_open, piece, settled}

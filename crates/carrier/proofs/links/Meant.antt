@@ -1,17 +1,18 @@
 -- A datagram that comes in time is read as it was meant.
-use Rattle.std.proofs.Common.{◌≡◌, ℕ, ◌<◌, Bool, true, false, List, length, Option, Some, None, is_some, option_map, refl, sym, ap, ◌∙◌}
+use Rattle.std.proofs.Common.{◌≡◌, ℕ, ◌<◌, Bool, true, false, List, length, Option, Some, None, is_some, option_map, refl, ap, ◌∙◌}
 use Rattle.mt_base.specs.Trace.{Trace}
 use Rattle.carrier.specs.Entries.{Entry, pulled}
-use Rattle.carrier.specs.Layout.{Layout, Carried, Datagram, Shown, Telling, named_in, with_named, read_near}
-use Rattle.carrier.specs.Receiving.{received, accepted, floor_read}
+use Rattle.carrier.specs.Layout.{Layout, Carried, Datagram, Telling, named_in, read_near}
+use Rattle.carrier.specs.Receiving.{received, accepted}
 use Rattle.carrier.specs.Sending.{acts, told_reference}
 use Rattle.carrier.specs.LayoutLaw.{shown_of, load_shown, telling_shown, low_part}
 use Rattle.carrier.specs.TwoLinks.{Reads, LoadRead, TellingRead, FloorRead}
 use Rattle.carrier.proofs.links.Invariant.{FliesLoad, LowFloor, Told}
-use Rattle.carrier.proofs.links.Facing.{Facing}
+use Rattle.carrier.proofs.links.Facing.{Facing, same_window}
 use Rattle.carrier.proofs.links.Hears.{named_with, with_again, with_own}
 use Rattle.carrier.proofs.links.Reading.{arrives, floor_is, named_is}
-use Rattle.carrier.proofs.links.Ends.{Both, Spelled, reading_is}
+use Rattle.carrier.proofs.links.Ends.{Both}
+use Rattle.carrier.proofs.links.Comes.{reading_is}
 
 -- `l` is the layout where it comes, `m` that of the end that sent it
 module _ (late : ℕ) (l m : Layout) (t u : Trace Entry) (S R : ℕ → Datagram → Type 0) (T U : ℕ → List ℕ → Type 0) (k : ℕ) (f : Facing late l m) (g : Facing late m l) (h : Both l m t u S R T U) (soon : k < late) where
@@ -48,6 +49,7 @@ module _ (late : ℕ) (l m : Layout) (t u : Trace Entry) (S R : ℕ → Datagram
         it.1,
         record {
           shown = shown_of m it.0;
+          window = ap Some (same_window late l m f);
           shows = reading_is late l m it.0 datagram g it.2;
           load = load_is it.0.load (h.back.loads k it.0 it.1);
           tells = tells_is it.0.tells it.0.telling;

@@ -1,12 +1,9 @@
 -- Lemmas on the parts that a receiver accepted.
-use Rattle.std.proofs.Common.{◌≡◌, ℕ, zero, suc, ◌+◌, ◌-◌, ◌<◌, ◌≤◌, ◌⊎◌, inl, inr, Bool, true, false, eqb, ltb, leb, cond, List, [], ◌∷◌, ◌++◌, length, get_or, max, Option, Some, None, is_some, refl, sym, ap, ◌∙◌, subst, append_assoc, arith}
-use Rattle.std.proofs.lemmas.Bool.{cases_lt, cases_eq}
+use Rattle.std.proofs.Common.{◌≡◌, ℕ, zero, suc, ◌+◌, ◌-◌, ◌<◌, ◌≤◌, Bool, true, false, ltb, leb, cond, List, [], ◌∷◌, ◌++◌, length, get_or, Option, Some, None, is_some, refl, sym, ap, ◌∙◌, subst, append_assoc, arith}
 use Rattle.std.proofs.lemmas.Bool.Decides.{nat_tests}
 use Rattle.mt_base.specs.Writing.{joined}
-use Rattle.mt_windows.specs.declared.receive.Accept.{Accept}
 use Rattle.mt_windows.specs.declared.receive.Accept.TheVariants.{New, Again, Beyond}
-use Rattle.mt_windows.specs.Arrived.{Parts, part_at, put, passed, drained, end_of, has_part, verdict, with_part}
-use Rattle.mt_windows.proofs.Order.{end_of-put, part_at-put_same, part_at-put_other, verdict_new}
+use Rattle.mt_windows.specs.Arrived.{Parts, part_at, put, passed, drained, end_of, has_part, verdict}
 
 -- ---- the place behind the greatest part
 

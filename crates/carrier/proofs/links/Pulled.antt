@@ -3,7 +3,7 @@ use Rattle.std.proofs.Common.{◌≡◌, ℕ, ◌+◌, ◌≤◌, List, [], ◌+
 use Rattle.std.proofs.lemmas.List.{take_min, take-append-le}
 use Rattle.std.proofs.Math.Seq.{take-add}
 use Rattle.mt_base.specs.Trace.{Trace, Start, ◌▷◌}
-use Rattle.mt_windows.specs.Arrived.{Parts, passed}
+use Rattle.mt_windows.specs.Arrived.{passed}
 use Rattle.mt_windows.proofs.Order.{with_part_adds}
 use Rattle.carrier.specs.Entries.{Entry, Gave, In, Polled, Pulled, Owed, Posted, Next, pulled}
 use Rattle.carrier.specs.Layout.{Layout, Received, Shown}
@@ -29,7 +29,7 @@ front_stays xs ys zs more is e =
 front_more : (xs ys bytes : List ℕ) (room : ℕ) → xs ≡ take (length xs) ys → bytes ≡ take room (drop (length xs) ys) → xs ++ bytes ≡ take (length (xs ++ bytes)) ys
 front_more xs ys bytes room is next =
     let whole : xs ++ bytes ≡ take (length xs + room) ys =
-        ap (λ z. xs ++ z) next ∙ ap (λ z. z ++ take room (drop (length xs) ys)) is ∙ sym (take-add (length xs) room ys) in
+    ap (λ z. xs ++ z) next ∙ ap (λ z. z ++ take room (drop (length xs) ys)) is ∙ sym (take-add (length xs) room ys) in
     let size : length (xs ++ bytes) ≡ min (length xs + room) (length ys) = ap length whole ∙ length-take (length xs + room) ys in
     whole ∙ sym (ap (λ n. take n ys) size ∙ take_min (length xs + room) ys)
 
@@ -50,5 +50,5 @@ pub pulled_then : (l : Layout) (t : Trace Entry) (all more : List ℕ) → Faith
 pulled_then l t all more law is =
     let n = length (pulled t) in
     let split : passed (accepted l t) ≡ pulled t ++ drop n (passed (accepted l t)) =
-        sym (take-append-drop n (passed (accepted l t))) ∙ ap (λ z. z ++ drop n (passed (accepted l t))) (sym (pulled_front l t law)) in
+    sym (take-append-drop n (passed (accepted l t))) ∙ ap (λ z. z ++ drop n (passed (accepted l t))) (sym (pulled_front l t law)) in
     (drop n (passed (accepted l t)) ++ more, is ∙ ap (λ z. z ++ more) split ∙ append_assoc (pulled t) (drop n (passed (accepted l t))) more)

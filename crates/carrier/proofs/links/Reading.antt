@@ -1,14 +1,14 @@
 -- What a datagram under way is read as where it comes, by the margins.
-use Rattle.std.proofs.Common.{◌≡◌, ℕ, ◌+◌, ◌-◌, ◌*◌, ◌%◌, ◌<◌, ◌≤◌, Bool, true, false, ltb, cond, List, length, Option, Some, None, is_some, unwrap_or, refl, sym, ap, ◌∙◌, subst, arith}
+use Rattle.std.proofs.Common.{◌≡◌, ℕ, ◌+◌, ◌-◌, ◌*◌, ◌<◌, ◌≤◌, Bool, true, false, ltb, cond, Some, None, is_some, unwrap_or, refl, sym, ap, ◌∙◌, subst, arith}
 use Rattle.std.proofs.lemmas.Bool.Decides.{nat_tests}
 use Rattle.mt_base.specs.Trace.{Trace}
 use Rattle.mt_windows.specs.Arrived.{Parts, part_at, drained, end_of, greatest_part, has_part}
 use Rattle.mt_windows.specs.Noted.{is_noted}
-use Rattle.mt_windows.specs.Sending.{Act, Limits, cuts, transmissions, lowest_or_next, settled}
-use Rattle.carrier.specs.Layout.{Layout, Bounds, Carried, Datagram, Received, Telling, Load, Carries, named_in, with_named, read_near, tells}
-use Rattle.carrier.specs.Receiving.{Arrival, arrival, arrival_of, part_read, transmission_read, floor_read, next_part, last_seen, last_part, last_told}
+use Rattle.mt_windows.specs.Sending.{Act, cuts, transmissions, lowest_or_next}
+use Rattle.carrier.specs.Layout.{Layout, Bounds, Carried, Received, Telling, Carries, named_in, read_near}
+use Rattle.carrier.specs.Receiving.{arrival, arrival_of, part_read, transmission_read, floor_read, next_part, last_seen, last_part}
 use Rattle.carrier.specs.Sending.{told_reference}
-use Rattle.carrier.specs.LayoutLaw.{IsLayout, is_received, low_part}
+use Rattle.carrier.specs.LayoutLaw.{is_received, low_part}
 use Rattle.carrier.proofs.links.Invariant.{Even, Follows, Flies, Low, Told}
 use Rattle.carrier.proofs.links.Numbers.{below_lowest}
 use Rattle.carrier.proofs.links.Parts.{drained_within}

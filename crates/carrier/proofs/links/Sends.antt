@@ -1,23 +1,22 @@
 -- What a poll sends, and what becomes of the sender by it.
-use Rattle.std.proofs.Common.{◌≡◌, ℕ, zero, suc, ◌+◌, ◌-◌, ◌*◌, ◌%◌, ◌<◌, ◌≤◌, ◌⊎◌, inl, inr, Bool, true, false, not, eqb, ltb, leb, cond, ◌&&◌, ◌||◌, List, [], ◌∷◌, ◌++◌, length, take, drop, min, max, All, Option, Some, None, is_some, IfSome, unwrap_or, refl, sym, ap, ◌∙◌, subst, arith, length-take}
+use Rattle.std.proofs.Common.{◌≡◌, ℕ, ◌+◌, ◌-◌, ◌<◌, ◌≤◌, ◌⊎◌, inl, inr, Bool, true, false, not, eqb, ltb, leb, cond, ◌&&◌, ◌||◌, [], ◌∷◌, length, min, All, Some, None, is_some, unwrap_or, refl, sym, ap, ◌∙◌, subst, arith, length-take}
 use Rattle.std.proofs.lemmas.Bool.{cases_lt, cases_order, and_parts}
 use Rattle.std.proofs.lemmas.Bool.Decides.{nat_tests}
-use Rattle.std.proofs.lemmas.List.{get_or_append_left, get_or_push, get_or_past, length_push}
+use Rattle.std.proofs.lemmas.List.{get_or_append_left, get_or_push, get_or_past}
 use Rattle.std.proofs.lemmas.List.Elements.{All-take, All-drop, All-nil}
-use Rattle.mt_base.specs.Trace.{Trace, Start, ◌▷◌}
+use Rattle.mt_base.specs.Trace.{Trace, ◌▷◌}
 use Rattle.mt_base.specs.Writing.{joined}
-use Rattle.mt_base.specs.Nearness.{nearest}
-use Rattle.mt_windows.specs.Sending.Act.{Gave, Cut, Resent}
-use Rattle.mt_windows.specs.Sending.{Act, Limits, given, cuts, pieces, piece, waiting, next_piece, transmissions, is_open, settled, lowest, lowest_or_next, passed_over, reach, may_cut, floor_transmission}
+use Rattle.mt_windows.specs.Sending.Act.{Cut, Resent}
+use Rattle.mt_windows.specs.Sending.{Act, Limits, given, cuts, pieces, piece, waiting, next_piece, transmissions, is_open, lowest, lowest_or_next, passed_over, reach, may_cut, floor_transmission}
 use Rattle.mt_windows.proofs.Counts.{pieces_count}
 use Rattle.carrier.specs.Entries.{Entry}
-use Rattle.carrier.specs.Layout.{Layout, Datagram, Carried, Reading, Shows, Load, Carries}
+use Rattle.carrier.specs.Layout.{Layout, Datagram, Carried, Shows}
 use Rattle.carrier.specs.Receiving.{received, floor, owed, peer_window}
 use Rattle.carrier.specs.Sending.{acts, timer, expires, expiry, is_over, is_waiting, is_closed, sends, sends_part}
 use Rattle.carrier.specs.Due.{telling_with, with_part, own_floor, again, fresh, bare, is_pressing, may_send, closes, meant_at}
-use Rattle.carrier.specs.LayoutLaw.{IsLayout, IsCarried, shown_of, low_part}
+use Rattle.carrier.specs.LayoutLaw.{shown_of}
 use Rattle.carrier.proofs.links.Invariant.{Even, Flies, FliesLoad, Low, LowFloor, Grown}
-use Rattle.carrier.proofs.links.Numbers.{open_cut, open_unsettled, open_from, lowest_open, lowest_le, lowest_within, below_lowest, passed_open}
+use Rattle.carrier.proofs.links.Numbers.{open_cut, open_unsettled, open_from, lowest_open, lowest_le, below_lowest, passed_open}
 use Rattle.carrier.proofs.links.Steps.{stays, cuts_within}
 use Rattle.carrier.proofs.links.Facing.{Facing, some_half, nearest_is}
 

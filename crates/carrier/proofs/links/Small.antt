@@ -1,22 +1,17 @@
 -- A small world meets what is asked of two joined ends.
-use Rattle.std.proofs.Common.{◌≡◌, ℕ, zero, suc, ◌+◌, ◌-◌, ◌*◌, ◌%◌, ◌<◌, ◌≤◌, ◌⊎◌, inl, inr, Bool, true, false, eqb, ltb, leb, cond, ◌==◌, slice_get, List, [], ◌∷◌, ◌++◌, length, All, Option, Some, None, is_some, IfSome, unwrap_or, refl, sym, ap, ◌∙◌, subst, arith, lit<, lit≤}
-use Rattle.std.proofs.lemmas.Bool.{cases_lt}
+use Rattle.std.proofs.Common.{◌≡◌, ℕ, zero, suc, ◌+◌, ◌-◌, ◌*◌, ◌%◌, ◌<◌, ◌≤◌, Bool, true, false, leb, cond, ◌==◌, slice_get, List, [], ◌∷◌, length, All, Option, Some, None, IfSome, unwrap_or, refl, ap, ◌∙◌, arith, lit<, lit≤}
 use Rattle.std.proofs.lemmas.Bool.Decides.{nat_tests}
 use Rattle.std.proofs.lemmas.List.Elements.{All-cons, All-nil}
 use Rattle.mt_base.specs.declared.kinds.Role.{Role}
 use Rattle.mt_base.specs.declared.kinds.Role.TheVariants.{Server, Client}
 use Rattle.mt_base.specs.Ends.{other}
-use Rattle.mt_base.specs.Trace.{Trace, Start, ◌▷◌}
 use Rattle.mt_base.specs.Nearness.{nearest}
-use Rattle.mt_windows.specs.Arrived.{Parts, part_at, passed, end_of, greatest_part, has_part}
-use Rattle.carrier.specs.declared.state.Took.TheVariants.{Used}
-use Rattle.carrier.specs.Entries.{Entry, Gave, In, Polled, Pulled}
-use Rattle.carrier.specs.Layout.{Layout, Received, Reading, Refuses, Shows, Shown, Load, Empty, Carries, Telling, Upto, From, Datagram, Carried, named_in, tells}
+use Rattle.mt_windows.specs.Arrived.{passed, greatest_part, has_part}
+use Rattle.carrier.specs.Layout.{Received, Shows, Empty, Carries, Upto, Datagram, Carried, tells}
 use Rattle.carrier.specs.Receiving.{shown_in, accepted}
 use Rattle.carrier.specs.Law.{Faithful}
-use Rattle.carrier.specs.Due.{due}
-use Rattle.carrier.specs.LayoutLaw.{IsLayout, IsCarried, datagram_of, shown_of}
-use Rattle.carrier.specs.Joined.{Step, At, half, Timely}
+use Rattle.carrier.specs.LayoutLaw.{IsLayout, IsCarried, shown_of}
+use Rattle.carrier.specs.Joined.{half, Timely}
 use Rattle.carrier.specs.TwoLinks.{Margins, Net}
 use Rattle.carrier.specs.SmallWorld.{small, small_layouts, small_world, shows_small, spelled_small, bit}
 

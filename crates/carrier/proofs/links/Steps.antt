@@ -4,13 +4,13 @@ use Rattle.std.proofs.lemmas.Bool.{cases_eq}
 use Rattle.mt_base.specs.Trace.{Trace}
 use Rattle.mt_windows.specs.declared.receive.Accept.{Accept}
 use Rattle.mt_windows.specs.declared.receive.Accept.TheVariants.{New, Again, Beyond}
-use Rattle.mt_windows.specs.Arrived.{Parts, part_at, put, drained, end_of, verdict, with_part}
+use Rattle.mt_windows.specs.Arrived.{Parts, part_at, put, end_of, verdict, with_part}
 use Rattle.mt_windows.specs.Sending.{Act, Limits, cuts, given, is_open, piece, settled, lowest_or_next}
 use Rattle.mt_windows.proofs.Order.{end_of-put, part_at-put_same, part_at-put_other, verdict_new}
 use Rattle.carrier.specs.Layout.{Carried, Datagram, Telling}
-use Rattle.carrier.proofs.links.Invariant.{Even, Follows, Flies, FliesLoad, Low, LowFloor, Told, Way, Grown, Hears, Accepts}
+use Rattle.carrier.proofs.links.Invariant.{Even, Follows, FliesLoad, LowFloor, Told, Way, Grown, Hears, Accepts}
 use Rattle.carrier.proofs.links.Numbers.{open_cut, open_unsettled, open_from, below_lowest, lowest_or_all}
-use Rattle.carrier.proofs.links.Parts.{at_below_end, end_is_there, drained_within, drained_grows, drained_put, new_below}
+use Rattle.carrier.proofs.links.Parts.{at_below_end, end_is_there, drained_grows, drained_put, new_below}
 
 -- ---- one datagram later
 

@@ -1,5 +1,5 @@
 -- The law, by induction over the calls at both ends.
-use Rattle.std.proofs.Common.{◌≡◌, ℕ, zero, suc, ◌+◌, ◌*◌, ◌<◌, ◌≤◌, Bool, true, false, List, [], ◌++◌, length, Option, Some, None, is_some, refl, sym, ap, ◌∙◌, subst, arith}
+use Rattle.std.proofs.Common.{◌≡◌, ℕ, ◌<◌, length, Some, None, refl}
 use Rattle.mt_base.specs.declared.kinds.Role.{Role}
 use Rattle.mt_base.specs.declared.kinds.Role.TheVariants.{Server, Client}
 use Rattle.mt_base.specs.Ends.{other}
@@ -9,11 +9,11 @@ use Rattle.carrier.specs.Layout.{Layout, Datagram}
 use Rattle.carrier.specs.Law.{Faithful}
 use Rattle.carrier.specs.Receiving.{received, accepted}
 use Rattle.carrier.specs.Sending.{acts}
-use Rattle.carrier.specs.Due.{meant}
 use Rattle.carrier.specs.Joined.{Step, At, half, SentAgo, MeantAgo, Timely}
-use Rattle.carrier.specs.TwoLinks.{Margins, Net, Reads, AllRead, SettledArrive, PassedWasGiven, PulledWasGiven, LowestArrived, CutsNear}
+use Rattle.carrier.specs.TwoLinks.{Margins, Reads, AllRead, SettledArrive, PassedWasGiven, PulledWasGiven, LowestArrived, CutsNear}
 use Rattle.carrier.proofs.links.Facing.{Facing, facing}
-use Rattle.carrier.proofs.links.Ends.{Both, Later, both_start, swap, gives, pulls, same_ends, polls, comes, came, settled_arrived, passed_given}
+use Rattle.carrier.proofs.links.Ends.{Both, both_start, swap, gives, pulls, same_ends, polls, settled_arrived, passed_given}
+use Rattle.carrier.proofs.links.Comes.{comes, came}
 use Rattle.carrier.proofs.links.Pulled.{pulled_then}
 use Rattle.carrier.proofs.links.Steps.{lowest_arrived}
 use Rattle.carrier.proofs.links.Reading.{cut_near}
