@@ -27,7 +27,7 @@ module _ (late : ℕ) (l m : Layout) (t u : Trace Entry) (S R : ℕ → Datagram
 
   low_is : (floor : Option ℕ) → LowFloor m.bounds.windows m.own k (acts m u) floor → FloorRead l t (option_map (low_part m) floor) floor
   low_is None fly = refl
-  low_is (Some x) fly = floor_is late m l g (acts m u) (received l t) (length (pulled t)) k h.there h.back.now soon x fly
+  low_is (Some x) fly = (low_part m x, refl, floor_is late m l g (acts m u) (received l t) (length (pulled t)) k h.there h.back.now soon x fly)
 
   tells_is : (b : Bool) (telling : Telling) → is_some (telling_shown m b telling) ≡ b
   tells_is true telling = refl
