@@ -1,5 +1,5 @@
 -- What a datagram that comes does to a machine, by what is read of it.
-use Rattle.std.proofs.Common.{◌≡◌, ℕ, zero, suc, ◌+◌, ◌≤◌, ◌<◌, Bool, true, false, nat_lt, max, List, [], ◌∷◌, ◌++◌, length, Option, Some, None, All, refl, sym, ap, ap₂, ◌∙◌, subst, arith, lt-ltb, le-ltb, length-append, if◌then◌else◌}
+use Rattle.std.proofs.Common.{◌≡◌, ℕ, zero, suc, ◌+◌, ◌≤◌, ◌<◌, Bool, true, false, nat_lt, max, List, [], ◌∷◌, ◌++◌, length, Option, Some, None, All, refl, sym, ap, ap₂, ◌∙◌, subst, arith, lt-ltb, le-ltb, nltb→le, T, not, length-append, if◌then◌else◌}
 use Rattle.std.specs.Result.{IfOk, IfErr}
 use Rattle.mt_base.specs.Trace.{Trace, ◌▷◌}
 use Rattle.mt_base.specs.Writing.{joined}
@@ -21,8 +21,10 @@ use Rattle.udp1_core.specs.FirstLayout.{shows}
 use Rattle.udp1_core.specs.ContentsView.{BodyFits}
 use Rattle.udp1_core.specs.ReceiverView.{Receiver, Hears}
 use Rattle.udp1_core.specs.SenderView.{Sender, Speaks}
-use Rattle.udp1_core.specs.MachineView.{Machine, StandsIn, layout_of}
-use Rattle.udp1_core.proofs.Steps.{comes, comes_in_vain}
+use Rattle.udp1_core.specs.MachineView.{Machine, StandsIn, layout_of, condition_of}
+use Rattle.carrier.specs.declared.state.LinkState.{LinkState}
+use Rattle.carrier.specs.declared.state.LinkState.TheVariants.{Opening, Open, Closed}
+use Rattle.udp1_core.proofs.Steps.{comes, comes_in_vain, at_moment}
 
 -- ---- answers
 
@@ -72,36 +74,57 @@ short_read m datagram x short is = ap (λ b. if b then Refuses reason.TooLong el
 
 -- ---- calls
 
-pub closed_in : (m : Machine) (t : Trace Entry) (now : ℕ) (datagram : List ℕ) → nat_lt 16 m.sender.timer.expiries ≡ true → StandsIn (layout_of m) m t
-    → StandsIn (layout_of m) (record m { moment = max m.moment now }) (t ▷ In now datagram (Ignored reason.LinkClosed))
-closed_in m t now datagram closed h =
+pub closed_in : (m : Machine) (t : Trace Entry) (now at : ℕ) (datagram : List ℕ) → at ≡ max m.moment now → nat_lt 16 m.sender.timer.expiries ≡ true → StandsIn (layout_of m) m t
+    → StandsIn (layout_of m) (record m { moment = at }) (t ▷ In now datagram (Ignored reason.LinkClosed))
+closed_in m t now at datagram moved closed h =
     let l = layout_of m in
-    comes_in_vain l m t now datagram (Ignored reason.LinkClosed) refl
-        (sym (ap (λ b. if b then Ignored reason.LinkClosed else answer_reading l (received l t) (length (pulled t)) (reading l datagram)) (closed_is m t true closed h))) h
+    at_moment m _ at _ (sym moved) (comes_in_vain l m t now datagram (Ignored reason.LinkClosed) refl
+        (sym (ap (λ b. if b then Ignored reason.LinkClosed else answer_reading l (received l t) (length (pulled t)) (reading l datagram)) (closed_is m t true closed h))) h)
 
-pub refused_in : (m : Machine) (t : Trace Entry) (now : ℕ) (datagram : List ℕ) (why : Reason) → nat_lt 16 m.sender.timer.expiries ≡ false → reading (layout_of m) datagram ≡ Refuses why → StandsIn (layout_of m) m t
-    → StandsIn (layout_of m) (record m { moment = max m.moment now }) (t ▷ In now datagram (Ignored why))
-refused_in m t now datagram why is_open is h =
+pub refused_in : (m : Machine) (t : Trace Entry) (now at : ℕ) (datagram : List ℕ) (why : Reason) → at ≡ max m.moment now → nat_lt 16 m.sender.timer.expiries ≡ false → reading (layout_of m) datagram ≡ Refuses why → StandsIn (layout_of m) m t
+    → StandsIn (layout_of m) (record m { moment = at }) (t ▷ In now datagram (Ignored why))
+refused_in m t now at datagram why moved is_open is h =
     let l = layout_of m in
-    comes_in_vain l m t now datagram (Ignored why) (refused_none l (Ignored why) datagram why is)
-        (answered_open l t datagram (Refuses why) (closed_is m t false is_open h) is) h
+    at_moment m _ at _ (sym moved) (comes_in_vain l m t now datagram (Ignored why) (refused_none l (Ignored why) datagram why is)
+        (answered_open l t datagram (Refuses why) (closed_is m t false is_open h) is) h)
 
-pub used_in : (m : Machine) (t : Trace Entry) (now : ℕ) (datagram : List ℕ) (took : Took) (shown : Shown) (s : Sender) (r : Receiver)
-    → nat_lt 16 m.sender.timer.expiries ≡ false → reading (layout_of m) datagram ≡ Shows shown
+pub used_in : (m : Machine) (t : Trace Entry) (now at : ℕ) (datagram : List ℕ) (took : Took) (shown : Shown) (s : Sender) (r : Receiver)
+    → at ≡ max m.moment now → nat_lt 16 m.sender.timer.expiries ≡ false → reading (layout_of m) datagram ≡ Shows shown
     → took ≡ answer_load (layout_of m) (received (layout_of m) t) (length (pulled t)) shown.load
     → Speaks s (hears (layout_of m) (acts (layout_of m) t) (Some shown)) (window_shown (peer_window (layout_of m) t) (Some shown))
-        (timer_told (layout_of m) (timer (layout_of m) t) (acts (layout_of m) t) (hears (layout_of m) (acts (layout_of m) t) (Some shown)) (max m.moment now))
+        (timer_told (layout_of m) (timer (layout_of m) t) (acts (layout_of m) t) (hears (layout_of m) (acts (layout_of m) t) (Some shown)) at)
     → Hears r (receives (layout_of m) (received (layout_of m) t) (length (pulled t)) (Some shown)).parts (length (pulled t))
         (floor_shown (layout_of m) (received (layout_of m) t) (length (pulled t)) (receives (layout_of m) (received (layout_of m) t) (length (pulled t)) (Some shown)) (floor (layout_of m) t) (Some shown))
-        (if owes (layout_of m) (received (layout_of m) t) (length (pulled t)) (Some shown) then owed (layout_of m) t ++ max m.moment now ∷ [] else owed (layout_of m) t)
+        (if owes (layout_of m) (received (layout_of m) t) (length (pulled t)) (Some shown) then owed (layout_of m) t ++ at ∷ [] else owed (layout_of m) t)
     → StandsIn (layout_of m) m t
-    → StandsIn (layout_of m) (record { moment = max m.moment now; sender = s; receiver = r }) (t ▷ In now datagram took)
-used_in m t now datagram took shown s r is_open is answers speaks hear h =
+    → StandsIn (layout_of m) (record { moment = at; sender = s; receiver = r }) (t ▷ In now datagram took)
+used_in m t now at datagram took shown s r moved is_open is answers speaks hear h =
     let l = layout_of m in
     let has : has_effect took ≡ true = ap has_effect answers ∙ load_has l (received l t) (length (pulled t)) shown.load in
     let shows : effect l took datagram ≡ Some shown = ap (λ b. if b then shown_in (reading l datagram) else None) has ∙ ap shown_in is in
-    comes l m t now datagram took (Some shown) s r shows
-        (answers ∙ answered_open l t datagram (Shows shown) (closed_is m t false is_open h) is) speaks hear h
+    subst (λ k. StandsIn l (record { moment = k; sender = s; receiver = r }) (t ▷ In now datagram took)) (sym moved)
+        (comes l m t now datagram took (Some shown) s r shows
+            (answers ∙ answered_open l t datagram (Shows shown) (closed_is m t false is_open h) is)
+            (subst (λ k. Speaks s (hears l (acts l t) (Some shown)) (window_shown (peer_window l t) (Some shown)) (timer_told l (timer l t) (acts l t) (hears l (acts l t) (Some shown)) k)) moved speaks)
+            (subst (λ k. Hears r (receives l (received l t) (length (pulled t)) (Some shown)).parts (length (pulled t))
+                (floor_shown l (received l t) (length (pulled t)) (receives l (received l t) (length (pulled t)) (Some shown)) (floor l t) (Some shown))
+                (if owes l (received l t) (length (pulled t)) (Some shown) then owed l t ++ k ∷ [] else owed l t)) moved hear) h)
+
+-- ---- what the link is
+
+abbrev is_no_closed : LinkState → Type 0
+is_no_closed Opening = Unit {0}
+is_no_closed Open = Unit {0}
+is_no_closed (Closed e) = ⊥
+
+pub few_of : (n : ℕ) → false ≡ nat_lt 16 n → n ≤ 16
+few_of n e = nltb→le 16 n (subst (λ b. T (not b)) e tt)
+
+-- a link with no more expiries than it survives is not closed
+pub not_closed : {X : Type 0} (m : Machine) (e : ℕ) → m.sender.timer.expiries ≤ 16 → condition_of m ≡ Closed e → X
+not_closed m e few is =
+    let is_open : condition_of m ≡ Open = ap (λ b. if b then Closed m.sender.timer.expiries else Open) (le-ltb 16 m.sender.timer.expiries few) in
+    absurd (subst is_no_closed (sym is_open ∙ is) tt)
 
 -- ---- the bytes of a part
 
