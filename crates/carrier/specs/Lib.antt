@@ -7,3 +7,6 @@ pub mod Law
 pub mod States
 pub mod LayoutLaw
 pub mod Joined
+pub mod Perfect
+pub mod PerfectThin
+pub mod PerfectView

@@ -8,14 +8,18 @@
 //! link's law, and what each call adds to that trace.
 #![tactic(auto)]
 
+mod byte_queue;
 mod first_layout;
 mod lossy;
+mod perfect_carrier;
+mod perfect_datagram;
 mod reliable;
 mod second_layout;
 mod state;
 
 pub use first_layout::Refusal1;
 pub use lossy::{Post, PostRefusal};
+pub use perfect_carrier::PerfectCarrier;
 pub use reliable::{Carrier, GiveRefusal};
 pub use second_layout::Refusal2;
 pub use state::{LinkState, Reason, Took};

@@ -1,0 +1,77 @@
+-- What perfect links keep, and what it has to do with their traces.
+use Rattle.std.specs.Prelude.{◌≡◌, ℕ, ◌+◌, ◌<◌, ◌≤◌, ◌^◌, max, List, [], ◌∷◌, ◌++◌, length, take, drop, All}
+use Rattle.mt_base.specs.Trace.{Trace}
+use Rattle.carrier.specs.declared.state.Took.{Took}
+use Rattle.carrier.specs.declared.state.Took.TheVariants.{Used, Ignored}
+use Rattle.carrier.specs.Entries.{Entry, moment, pulled}
+use Rattle.carrier.specs.Perfect.{PerfectFaithful, sent, waiting, next_number, passed}
+use Rattle.carrier.specs.PerfectThin.{PerfectThin, unsent, least_new, taken, handed}
+
+-- ---- a perfect carrier
+
+-- the bytes that wait to be sent, the number of the next part to be sent, the bytes that were
+-- accepted and not pulled, the number of the next part to be accepted, and the last moment
+pub record Kept : Type 0 where
+  pub waiting : List ℕ
+  pub sent : ℕ
+  pub arrived : List ℕ
+  pub next : ℕ
+  pub last : ℕ
+
+pub record IsSoundCarrier (s : Kept) : Type 0 where
+  pub waiting_fits : length s.waiting ≤ 2097152
+  pub arrived_fits : length s.arrived ≤ 2097152
+  pub sent_bound : s.sent ≤ 2 ^ 62
+  pub next_bound : s.next ≤ 2 ^ 62
+
+-- this value stands for this trace
+pub record CarrierStands (s : Kept) (t : Trace Entry) : Type 0 where
+  pub waiting_is : s.waiting ≡ waiting t
+  pub sent_is : s.sent ≡ sent t
+  pub in_order : pulled t ++ s.arrived ≡ passed t
+  pub next_is : s.next ≡ next_number t
+  pub last_is : s.last ≡ moment t
+  pub faithful : PerfectFaithful t
+
+-- a part was accepted
+abbrev pub with_arrived : List ℕ → Kept → Kept
+with_arrived bytes s = record s { arrived = s.arrived ++ bytes; next = s.next + 1 }
+
+-- a datagram was answered so
+abbrev pub carrier_took : Took → List ℕ → Kept → Kept
+carrier_took Used bytes s = with_arrived bytes s
+carrier_took (Ignored why) bytes s = s
+
+-- a part was sent
+abbrev pub without_sent : Kept → Kept
+without_sent s = record s { waiting = drop 1000 s.waiting; sent = s.sent + 1 }
+
+-- ---- a perfect post
+
+-- the same of a link of parts; `least` is the least number above those of all accepted parts
+pub record KeptParts : Type 0 where
+  pub waiting : List (List ℕ)
+  pub sent : ℕ
+  pub arrived : List (List ℕ)
+  pub least : ℕ
+  pub last : ℕ
+
+pub record IsSoundPost (s : KeptParts) : Type 0 where
+  pub waiting_fits : length s.waiting ≤ 64
+  pub arrived_fits : length s.arrived ≤ 64
+  pub sent_bound : s.sent ≤ 2 ^ 62
+  pub least_bound : s.least ≤ 2 ^ 62
+  pub short_parts : All (λ bytes. length bytes ≤ 1000) s.waiting
+
+-- the first parts of all that were accepted were handed out
+abbrev pub AreHanded : ℕ → List (List ℕ) → List (List ℕ) → Type 0
+AreHanded n arrived taken = (front : List (List ℕ)) × (length front ≡ n) × (front ++ arrived ≡ taken)
+
+-- this value stands for this trace
+pub record PostStands (s : KeptParts) (t : Trace Entry) : Type 0 where
+  pub waiting_is : s.waiting ≡ unsent t
+  pub sent_is : s.sent ≡ sent t
+  pub in_order : AreHanded (handed t) s.arrived (taken t)
+  pub least_is : s.least ≡ least_new t
+  pub last_is : s.last ≡ moment t
+  pub thin : PerfectThin t
