@@ -1,1 +1,2 @@
 pub mod Perfect
+pub mod PerfectThin

@@ -9,7 +9,7 @@ use Rattle.carrier.specs.declared.state.Reason.{Reason}
 use Rattle.carrier.specs.declared.state.Reason.TheVariants as reason
 use Rattle.carrier.specs.Entries.{Entry, Gave, In, Polled, Pulled, Owed, Posted, Next, moment}
 use Rattle.carrier.specs.Law.{IsBytes}
-use Rattle.carrier.specs.Perfect.{spelled, number_of, bytes_of, sent}
+use Rattle.carrier.specs.Perfect.{spelled, number_of, bytes_of, sent, may_send}
 
 -- ---- what is sent
 
@@ -20,18 +20,18 @@ unsent (t ▷ Posted bytes) = unsent t ++ bytes ∷ []
 unsent (t ▷ Polled now (Some datagram)) = drop 1 (unsent t)
 unsent (t ▷ e) = unsent t
 
--- the datagram of the first of these parts, where there is one and a number is left
-abbrev pub first_of_parts : ℕ → List (List ℕ) → Option (List ℕ)
-first_of_parts number [] = None
-first_of_parts number (bytes ∷ parts) = if nat_lt number NUMBERS then Some (spelled number bytes) else None
+-- the datagram of the first of some parts, where there is one
+abbrev pub first_spelled : ℕ → List (List ℕ) → Option (List ℕ)
+first_spelled number [] = None
+first_spelled number (bytes ∷ parts) = Some (spelled number bytes)
 
 -- the datagram that a poll sends, at any moment
 abbrev pub part_due : Trace Entry → Option (List ℕ)
-part_due t = first_of_parts (sent t) (unsent t)
+part_due t = if may_send (length (unsent t)) (sent t) then first_spelled (sent t) (unsent t) else None
 
 -- the last moment, where something is due
 abbrev pub part_moment : Trace Entry → Option ℕ
-part_moment t = if is_some (part_due t) then Some (moment t) else None
+part_moment t = if may_send (length (unsent t)) (sent t) then Some (moment t) else None
 
 -- ---- what is accepted and handed out
 

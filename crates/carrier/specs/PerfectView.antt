@@ -1,6 +1,7 @@
 -- What perfect links keep, and what it has to do with their traces.
-use Rattle.std.specs.Prelude.{◌≡◌, ℕ, ◌+◌, ◌<◌, ◌≤◌, ◌^◌, max, List, [], ◌∷◌, ◌++◌, length, take, drop, All}
+use Rattle.std.specs.Prelude.{◌≡◌, ℕ, ◌+◌, ◌<◌, ◌≤◌, ◌^◌, max, List, [], ◌∷◌, ◌++◌, length, take, drop, Result, Ok, Err}
 use Rattle.mt_base.specs.Trace.{Trace}
+use Rattle.carrier.specs.declared.state.Reason.{Reason}
 use Rattle.carrier.specs.declared.state.Took.{Took}
 use Rattle.carrier.specs.declared.state.Took.TheVariants.{Used, Ignored}
 use Rattle.carrier.specs.Entries.{Entry, moment, pulled}
@@ -61,7 +62,6 @@ pub record IsSoundPost (s : KeptParts) : Type 0 where
   pub arrived_fits : length s.arrived ≤ 64
   pub sent_bound : s.sent ≤ 2 ^ 62
   pub least_bound : s.least ≤ 2 ^ 62
-  pub short_parts : All (λ bytes. length bytes ≤ 1000) s.waiting
 
 -- the first parts of all that were accepted were handed out
 abbrev pub AreHanded : ℕ → List (List ℕ) → List (List ℕ) → Type 0
@@ -75,3 +75,20 @@ pub record PostStands (s : KeptParts) (t : Trace Entry) : Type 0 where
   pub least_is : s.least ≡ least_new t
   pub last_is : s.last ≡ moment t
   pub thin : PerfectThin t
+
+-- a part of this number was accepted
+abbrev pub with_part : ℕ → List ℕ → KeptParts → KeptParts
+with_part number bytes s = record s { arrived = s.arrived ++ bytes ∷ []; least = number + 1 }
+
+abbrev pub with_read : Result ℕ Reason → List ℕ → KeptParts → KeptParts
+with_read (Err why) bytes s = s
+with_read (Ok number) bytes s = with_part number bytes s
+
+-- a datagram was answered so
+abbrev pub post_took : Took → Result ℕ Reason → List ℕ → KeptParts → KeptParts
+post_took Used number bytes s = with_read number bytes s
+post_took (Ignored why) number bytes s = s
+
+-- a part was sent
+abbrev pub without_part : KeptParts → KeptParts
+without_part s = record s { waiting = drop 1 s.waiting; sent = s.sent + 1 }
