@@ -15,11 +15,7 @@ use Rattle.carrier.specs.PerfectView.{KeptParts, PostStands, post_took, with_rea
 
 -- what it keeps to be handed out is what was not
 pub kept_is : (s : KeptParts) (t : Trace Entry) → PostStands s t → kept_parts t ≡ s.arrived
-kept_is s t h =
-    let front = h.in_order.0 in
-    ap (drop (handed t)) (sym h.in_order.2)
-    ∙ ap (λ n. drop n (front ++ s.arrived)) (sym h.in_order.1)
-    ∙ drop-append_seam front s.arrived
+kept_is s t h = ap (drop (length (handed t))) (sym h.in_order) ∙ drop-append_seam (handed t) s.arrived
 
 pub post_answers : (s : KeptParts) (t : Trace Entry) (datagram : List ℕ) → PostStands s t → part_answer_by s.least (length s.arrived) (number_of datagram) ≡ part_answered t datagram
 post_answers s t datagram h =
@@ -55,7 +51,7 @@ post_takes s t now last datagram Used h later e = by (number_of datagram) refl e
         record {
           waiting_is = h.waiting_is;
           sent_is = h.sent_is;
-          in_order = (h.in_order.0, h.in_order.1, sym (append_assoc h.in_order.0 s.arrived (bytes_of datagram ∷ [])) ∙ ap (λ xs. xs ++ bytes_of datagram ∷ []) h.in_order.2);
+          in_order = sym (append_assoc (handed t) s.arrived (bytes_of datagram ∷ [])) ∙ ap (λ xs. xs ++ bytes_of datagram ∷ []) h.in_order;
           least_is = most ∙ ap (past (least_new t)) (sym f);
           last_is = later ∙ ap (λ m. max m now) h.last_is;
           thin = (e ∙ ap (part_answer_by s.least (length s.arrived)) (sym f) ∙ post_answers s t datagram h, h.thin);
@@ -67,13 +63,11 @@ post_takes_more s (Err why) bytes Used = ([], sym (append-nil s.arrived))
 post_takes_more s read bytes (Ignored why) = ([], sym (append-nil s.arrived))
 
 pub hands_out : (s : KeptParts) (t : Trace Entry) (bytes : List ℕ) (parts : List (List ℕ)) → PostStands s t → s.arrived ≡ bytes ∷ parts → PostStands (record s { arrived = parts }) (t ▷ Next (Some bytes))
-hands_out s t bytes parts h e =
-    let front = h.in_order.0 in
-    record {
-      waiting_is = h.waiting_is;
-      sent_is = h.sent_is;
-      in_order = (front ++ bytes ∷ [], length-append front (bytes ∷ []) ∙ ap (λ n. n + 1) h.in_order.1, append_assoc front (bytes ∷ []) parts ∙ ap (λ xs. front ++ xs) (sym e) ∙ h.in_order.2);
-      least_is = h.least_is;
-      last_is = h.last_is;
-      thin = (sym (ap first_part (kept_is s t h ∙ e)), h.thin);
-    }
+hands_out s t bytes parts h e = record {
+  waiting_is = h.waiting_is;
+  sent_is = h.sent_is;
+  in_order = append_assoc (handed t) (bytes ∷ []) parts ∙ ap (λ xs. handed t ++ xs) (sym e) ∙ h.in_order;
+  least_is = h.least_is;
+  last_is = h.last_is;
+  thin = (sym (ap first_part (kept_is s t h ∙ e)), h.thin);
+}

@@ -1,6 +1,6 @@
 -- What a perfect link of parts sends, accepts and hands out. It puts each part into one datagram behind
 -- the part's number, from 0 on, and accepts the parts whose numbers rise.
-use Rattle.std.specs.Prelude.{◌≡◌, ℕ, ◌+◌, ◌<◌, ◌≤◌, ◌&&◌, ◌||◌, max, nat_le, nat_lt, List, [], ◌∷◌, ◌++◌, length, take, drop, if◌then◌else◌, Option, Some, None, is_some, Result, Ok, Err}
+use Rattle.std.specs.Prelude.{◌≡◌, ℕ, ◌+◌, ◌<◌, ◌≤◌, ◌⊎◌, max, nat_le, nat_lt, List, [], ◌∷◌, ◌++◌, length, drop, if◌then◌else◌, Option, Some, None, Result, Ok, Err}
 use Rattle.mt_base.specs.Trace.{Trace, Start, ◌▷◌}
 use Rattle.mt_windows.specs.declared.limits.TheConstants.{NUMBERS, PART, WINDOW}
 use Rattle.carrier.specs.declared.state.Took.{Took}
@@ -52,15 +52,15 @@ taken Start = []
 taken (t ▷ In now datagram Used) = taken t ++ bytes_of datagram ∷ []
 taken (t ▷ e) = taken t
 
--- how many of them were handed out
-abbrev pub handed : Trace Entry → ℕ
-handed Start = 0
-handed (t ▷ Next (Some bytes)) = handed t + 1
+-- the parts that were handed out, in order
+abbrev pub handed : Trace Entry → List (List ℕ)
+handed Start = []
+handed (t ▷ Next (Some bytes)) = handed t ++ bytes ∷ []
 handed (t ▷ e) = handed t
 
--- those that were not
+-- the accepted parts that were not handed out
 abbrev pub kept_parts : Trace Entry → List (List ℕ)
-kept_parts t = drop (handed t) (taken t)
+kept_parts t = drop (length (handed t)) (taken t)
 
 -- the first of some parts, where there is one
 abbrev pub first_part : List (List ℕ) → Option (List ℕ)
@@ -97,3 +97,11 @@ PerfectThin (t ▷ Next bytes) = (bytes ≡ first_part (kept_parts t)) × Perfec
 PerfectThin (t ▷ Gave bytes) = ⊥
 PerfectThin (t ▷ Pulled room bytes) = ⊥
 PerfectThin (t ▷ Owed count) = ⊥
+
+-- ---- two joined ends
+
+-- some of these, in the same order
+abbrev pub IsPickedFrom : List (List ℕ) → List (List ℕ) → Type 0
+IsPickedFrom [] ys = Unit {0}
+IsPickedFrom (x ∷ xs) [] = ⊥
+IsPickedFrom (x ∷ xs) (y ∷ ys) = (x ≡ y) × IsPickedFrom xs ys ⊎ IsPickedFrom (x ∷ xs) ys

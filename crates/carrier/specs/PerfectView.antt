@@ -1,6 +1,7 @@
 -- What perfect links keep, and what it has to do with their traces.
-use Rattle.std.specs.Prelude.{◌≡◌, ℕ, ◌+◌, ◌<◌, ◌≤◌, ◌^◌, max, List, [], ◌∷◌, ◌++◌, length, take, drop, Result, Ok, Err}
+use Rattle.std.specs.Prelude.{◌≡◌, ℕ, ◌+◌, ◌≤◌, List, [], ◌∷◌, ◌++◌, length, drop, Result, Ok, Err}
 use Rattle.mt_base.specs.Trace.{Trace}
+use Rattle.mt_windows.specs.declared.limits.TheConstants.{NUMBERS, PART, QUEUE, WINDOW}
 use Rattle.carrier.specs.declared.state.Reason.{Reason}
 use Rattle.carrier.specs.declared.state.Took.{Took}
 use Rattle.carrier.specs.declared.state.Took.TheVariants.{Used, Ignored}
@@ -20,10 +21,10 @@ pub record Kept : Type 0 where
   pub last : ℕ
 
 pub record IsSoundCarrier (s : Kept) : Type 0 where
-  pub waiting_fits : length s.waiting ≤ 2097152
-  pub arrived_fits : length s.arrived ≤ 2097152
-  pub sent_bound : s.sent ≤ 2 ^ 62
-  pub next_bound : s.next ≤ 2 ^ 62
+  pub waiting_fits : length s.waiting ≤ QUEUE
+  pub arrived_fits : length s.arrived ≤ QUEUE
+  pub sent_bound : s.sent ≤ NUMBERS
+  pub next_bound : s.next ≤ NUMBERS
 
 -- this value stands for this trace
 pub record CarrierStands (s : Kept) (t : Trace Entry) : Type 0 where
@@ -45,11 +46,11 @@ carrier_took (Ignored why) bytes s = s
 
 -- a part was sent
 abbrev pub without_sent : Kept → Kept
-without_sent s = record s { waiting = drop 1000 s.waiting; sent = s.sent + 1 }
+without_sent s = record s { waiting = drop PART s.waiting; sent = s.sent + 1 }
 
 -- ---- a perfect post
 
--- the same of a link of parts; `least` is the least number above those of all accepted parts
+-- the same of a perfect post, in parts; `least` is the least number above those of all accepted parts
 pub record KeptParts : Type 0 where
   pub waiting : List (List ℕ)
   pub sent : ℕ
@@ -58,20 +59,16 @@ pub record KeptParts : Type 0 where
   pub last : ℕ
 
 pub record IsSoundPost (s : KeptParts) : Type 0 where
-  pub waiting_fits : length s.waiting ≤ 64
-  pub arrived_fits : length s.arrived ≤ 64
-  pub sent_bound : s.sent ≤ 2 ^ 62
-  pub least_bound : s.least ≤ 2 ^ 62
-
--- the first parts of all that were accepted were handed out
-abbrev pub AreHanded : ℕ → List (List ℕ) → List (List ℕ) → Type 0
-AreHanded n arrived taken = (front : List (List ℕ)) × (length front ≡ n) × (front ++ arrived ≡ taken)
+  pub waiting_fits : length s.waiting ≤ WINDOW
+  pub arrived_fits : length s.arrived ≤ WINDOW
+  pub sent_bound : s.sent ≤ NUMBERS
+  pub least_bound : s.least ≤ NUMBERS
 
 -- this value stands for this trace
 pub record PostStands (s : KeptParts) (t : Trace Entry) : Type 0 where
   pub waiting_is : s.waiting ≡ unsent t
   pub sent_is : s.sent ≡ sent t
-  pub in_order : AreHanded (handed t) s.arrived (taken t)
+  pub in_order : handed t ++ s.arrived ≡ taken t
   pub least_is : s.least ≡ least_new t
   pub last_is : s.last ≡ moment t
   pub thin : PerfectThin t

@@ -1,9 +1,8 @@
 //! A reliable link that needs no real one, for tests of what stands above links.
 
-ghost use Rattle.std.specs.Prelude.{◌≡◌, ◌+◌, ◌-◌, ◌<◌, ◌≤◌, ◌^◌, ◌++◌, [], ◌&&◌, true, min, max, if◌then◌else◌, Some, None, length, take, drop, option_map, IfOk, IfSome};
+ghost use Rattle.std.specs.Prelude.{◌≡◌, ◌+◌, ◌<◌, ◌≤◌, [], true, length, take, IfOk};
 ghost use Rattle.mt_base.specs.Trace.{Start};
-ghost use Rattle.carrier.specs.declared.state.LinkState.TheVariants.{Open as IsOpen};
-ghost use Rattle.carrier.specs.Perfect.{PerfectFaithful, spelled, may_send, answer_to, answer_by, number_of, bytes_of, due_moment};
+ghost use Rattle.carrier.specs.Perfect.{spelled, may_send, answer_to, answer_by, number_of, bytes_of};
 ghost use Rattle.carrier.specs.PerfectView.{CarrierStands, carrier_took, with_arrived, without_sent};
 
 use crate::byte_queue::{append, take_front};
@@ -36,13 +35,14 @@ pub struct PerfectCarrier {
 impl Model for PerfectCarrier {
     ghost use Rattle.std.specs.Prelude.{◌≤◌};
     ghost use Rattle.std.specs.VecDeque.{deque_capacity};
+    ghost use Rattle.mt_windows.specs.declared.limits.TheConstants.{QUEUE};
     ghost use Rattle.carrier.specs.PerfectView.{Kept, IsSoundCarrier};
 
     ghost Value = { Kept };
 
     ghost view = { λ c. record { waiting = c.waiting.items; sent = c.sent; arrived = c.arrived.items; next = c.next; last = c.last } };
 
-    ghost invariant = { λ c. record { sound : IsSoundCarrier (record { waiting = c.waiting.items; sent = c.sent; arrived = c.arrived.items; next = c.next; last = c.last }); room : 2097152 ≤ deque_capacity c.waiting; space : 2097152 ≤ deque_capacity c.arrived } };
+    ghost invariant = { λ c. record { sound : IsSoundCarrier (record { waiting = c.waiting.items; sent = c.sent; arrived = c.arrived.items; next = c.next; last = c.last }); room : QUEUE ≤ deque_capacity c.waiting; space : QUEUE ≤ deque_capacity c.arrived } };
 }
 
 impl PerfectCarrier {
@@ -86,8 +86,8 @@ impl PerfectCarrier {
 
     /// Accepts the next part.
     fn accept(&mut self, bytes: &[u8])
-        requires number { self.old.next < 2 ^ 62 }
-        requires room { length self.old.arrived + length bytes.now ≤ 2097152 }
+        requires number { self.old.next < NUMBERS }
+        requires room { length self.old.arrived + length bytes.now ≤ QUEUE }
         ensures { self.new ≡ with_arrived bytes.now self.old }
     {
         append(&mut self.arrived, bytes);
@@ -115,7 +115,7 @@ impl PerfectCarrier {
     fn send(&mut self, out: &mut [u8; 1232]) -> usize
         requires { may_send (length self.old.waiting) self.old.sent ≡ true }
         ensures bound { result ≤ 1232 }
-        ensures datagram { take result out.new ≡ spelled self.old.sent (take 1000 self.old.waiting) }
+        ensures datagram { take result out.new ≡ spelled self.old.sent (take PART self.old.waiting) }
         ensures kept { self.new ≡ without_sent self.old }
     {
         let count = self.waiting.len().min(PART);

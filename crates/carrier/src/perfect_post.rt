@@ -1,7 +1,7 @@
 //! A link of parts that needs no real one, for tests of what stands above links and for ends that
 //! never have one.
 
-ghost use Rattle.std.specs.Prelude.{◌≡◌, ◌+◌, ◌-◌, ◌<◌, ◌≤◌, ◌^◌, ◌++◌, ◌∷◌, [], ◌&&◌, true, min, max, if◌then◌else◌, Some, None, length, take, drop, is_some, option_map, IfOk, IfSome};
+ghost use Rattle.std.specs.Prelude.{◌≡◌, ◌<◌, ◌≤◌, ◌∷◌, [], true, Some, length, take, IfOk};
 ghost use Rattle.std.specs.VecDeque.{deque_capacity};
 ghost use Rattle.mt_base.specs.Trace.{Start};
 ghost use Rattle.carrier.specs.Perfect.{number_of, bytes_of, may_send};
@@ -38,13 +38,14 @@ pub struct PerfectPost {
 impl Model for PerfectPost {
     ghost use Rattle.std.specs.Prelude.{◌≤◌};
     ghost use Rattle.std.specs.VecDeque.{deque_capacity};
+    ghost use Rattle.mt_windows.specs.declared.limits.TheConstants.{WINDOW};
     ghost use Rattle.carrier.specs.PerfectView.{KeptParts, IsSoundPost};
 
     ghost Value = { KeptParts };
 
     ghost view = { λ p. record { waiting = p.waiting.items; sent = p.sent; arrived = p.arrived.items; least = p.least; last = p.last } };
 
-    ghost invariant = { λ p. record { sound : IsSoundPost (record { waiting = p.waiting.items; sent = p.sent; arrived = p.arrived.items; least = p.least; last = p.last }); room : 64 ≤ deque_capacity p.waiting; space : 64 ≤ deque_capacity p.arrived } };
+    ghost invariant = { λ p. record { sound : IsSoundPost (record { waiting = p.waiting.items; sent = p.sent; arrived = p.arrived.items; least = p.least; last = p.last }); room : WINDOW ≤ deque_capacity p.waiting; space : WINDOW ≤ deque_capacity p.arrived } };
 }
 
 impl PerfectPost {
@@ -90,9 +91,9 @@ impl PerfectPost {
 
     /// Accepts a part.
     fn accept(&mut self, number: u64, bytes: &[u8])
-        requires number { number < 2 ^ 62 }
+        requires number { number < NUMBERS }
         requires rises { self.old.least ≤ number }
-        requires room { length self.old.arrived < 64 }
+        requires room { length self.old.arrived < WINDOW }
         requires fits { length bytes.now ≤ 1224 }
         ensures { self.new ≡ with_part number bytes.now self.old }
     {
