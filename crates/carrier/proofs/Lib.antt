@@ -1,2 +1,4 @@
+pub mod PartsJoined
 pub mod Perfect
+pub mod PerfectJoined
 pub mod PerfectThin

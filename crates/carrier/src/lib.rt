@@ -10,6 +10,7 @@
 
 mod byte_queue;
 mod first_layout;
+mod laws;
 mod lossy;
 mod perfect_carrier;
 mod perfect_datagram;
@@ -20,6 +21,9 @@ mod second_layout;
 mod state;
 
 pub use first_layout::Refusal1;
+pub use laws::{
+    perfect_bytes_arrive, perfect_bytes_in_order, perfect_parts_arrive, perfect_parts_in_order,
+};
 pub use lossy::{Post, PostRefusal};
 pub use perfect_carrier::PerfectCarrier;
 pub use perfect_post::PerfectPost;
