@@ -1,16 +1,15 @@
 -- Lemmas on two perfect links of parts that are joined.
-use Rattle.std.proofs.Common.{◌≡◌, ℕ, zero, suc, ◌+◌, ◌-◌, ◌≤◌, ◌<◌, ◌⊎◌, inl, inr, max, Bool, true, false, nat_le, nat_lt, List, [], ◌∷◌, ◌++◌, length, take, drop, All, Option, Some, None, unwrap_or, Result, Ok, Err, if◌then◌else◌, refl, sym, ap, ◌∙◌, subst, append_assoc, append-nil, arith}
+use Rattle.std.proofs.Common.{◌≡◌, ℕ, ◌+◌, ◌≤◌, ◌<◌, inl, inr, Bool, true, false, List, [], ◌∷◌, ◌++◌, length, take, drop, All, Some, None, unwrap_or, Ok, if◌then◌else◌, refl, sym, ap, ◌∙◌, subst, append_assoc, arith}
 use Rattle.std.proofs.lemmas.List.{take-append-drop, take-take}
 use Rattle.std.proofs.lemmas.List.Elements.{All-nil, All-cons, All-head, All-tail, All-append}
 use Rattle.mt_base.specs.Trace.{Trace, Start, ◌▷◌}
 use Rattle.mt_windows.specs.declared.limits.TheConstants.{NUMBERS, PART}
-use Rattle.carrier.specs.declared.state.Reason.{Reason}
 use Rattle.carrier.specs.declared.state.Took.TheVariants.{Used, Ignored}
 use Rattle.carrier.specs.Entries.{Entry, Gave, In, Polled, Pulled, Owed, Posted, Next, posted}
 use Rattle.carrier.specs.Perfect.{Comes, Sends, spelled, number_of, bytes_of, sent, may_send}
 use Rattle.carrier.specs.PerfectThin.{PerfectThin, IsPickedFrom, unsent, first_spelled, part_due, past, least_new, taken, handed, kept_parts, first_part, part_answer_by}
 use Rattle.carrier.proofs.PerfectThin.{rises}
-use Rattle.carrier.proofs.PerfectJoined.{split_at, shows, cut, cut_count, IsOf, is_of_more, is_of_last, may_number, ok_same}
+use Rattle.carrier.proofs.PerfectJoined.{split_at, shows, cut, cut_count, IsOf, is_of_more, is_of_last, may_number}
 
 -- ---- what was handed out and what was not
 
@@ -19,7 +18,7 @@ parts_in_order Start h = refl
 parts_in_order (t ▷ Posted bytes) h = parts_in_order t h.4
 parts_in_order (t ▷ In now datagram Used) h =
     split_at (handed t) (kept_parts t ++ bytes_of datagram ∷ []) (taken t ++ bytes_of datagram ∷ [])
-        (sym (append_assoc (handed t) (kept_parts t) (bytes_of datagram ∷ [])) ∙ ap (λ xs. xs ++ bytes_of datagram ∷ []) (parts_in_order t h.1))
+    (sym (append_assoc (handed t) (kept_parts t) (bytes_of datagram ∷ [])) ∙ ap (λ xs. xs ++ bytes_of datagram ∷ []) (parts_in_order t h.1))
 parts_in_order (t ▷ In now datagram (Ignored why)) h = parts_in_order t h.1
 parts_in_order (t ▷ Polled now out) h = parts_in_order t h.1
 parts_in_order (t ▷ Next None) h = parts_in_order t h.1
@@ -29,10 +28,10 @@ parts_in_order (t ▷ Next (Some bytes)) h = by (kept_parts t) refl h.0 (parts_i
     by [] f e before = absurd cc
     by (first ∷ rest) f e before =
         split_at (handed t ++ bytes ∷ []) rest (taken t)
-            (append_assoc (handed t) (bytes ∷ []) rest
-            ∙ ap (λ x. handed t ++ x ∷ rest) (ap (λ o. unwrap_or o []) e)
-            ∙ ap (λ xs. handed t ++ xs) (sym f)
-            ∙ before)
+        (append_assoc (handed t) (bytes ∷ []) rest
+        ∙ ap (λ x. handed t ++ x ∷ rest) (ap (λ o. unwrap_or o []) e)
+        ∙ ap (λ xs. handed t ++ xs) (sym f)
+        ∙ before)
 parts_in_order (t ▷ Gave bytes) h = absurd h
 parts_in_order (t ▷ Pulled room bytes) h = absurd h
 parts_in_order (t ▷ Owed count) h = absurd h
@@ -80,6 +79,7 @@ part_is t datagram e = by (may_send (length (unsent t)) (sent t)) refl e
       spells = ap (λ o. unwrap_or o []) e;
       small = small;
     }
+
     by : (b : Bool) → may_send (length (unsent t)) (sent t) ≡ b → Some datagram ≡ (if b then first_spelled (sent t) (unsent t) else None) → IsFirst t datagram
     by true f e = first (unsent t) refl (may_number (length (unsent t)) (sent t) f) e
     by false f e = absurd cc

@@ -1,23 +1,22 @@
 -- Lemmas on two perfect links that are joined: which parts one sent, and that what the other accepted
 -- is made of them.
-use Rattle.std.proofs.Common.{◌≡◌, ℕ, zero, suc, ◌+◌, ◌-◌, ◌≤◌, ◌<◌, ◌*◌, ◌^◌, ◌⊎◌, inl, inr, min, max, Bool, true, false, nat_le, nat_lt, ◌&&◌, ◌||◌, List, [], ◌∷◌, ◌++◌, length, take, drop, Option, Some, None, unwrap_or, Result, Ok, Err, if◌then◌else◌, refl, sym, ap, ◌∙◌, subst, append_assoc, append-nil, arith, length-append, length-drop}
-use Rattle.std.proofs.lemmas.List.{take-append-le, take-append-drop, length-take-le, length-take}
+use Rattle.std.proofs.Common.{◌≡◌, ℕ, ◌+◌, ◌≤◌, ◌<◌, inl, inr, Bool, true, false, nat_le, nat_lt, ◌||◌, List, [], ◌∷◌, ◌++◌, length, take, drop, Some, None, unwrap_or, Result, Ok, Err, if◌then◌else◌, refl, sym, ap, ◌∙◌, subst, append_assoc, arith, length-append}
+use Rattle.std.proofs.lemmas.List.{take-append-le, take-append-drop, length-take}
 use Rattle.std.proofs.Math.Seq.{take-append_seam, drop-append_seam, take-length}
 use Rattle.std.proofs.lemmas.Bool.Decides.{nat_tests}
-use Rattle.byteorder.specs.Endian.{little_bytes, little_number}
+use Rattle.byteorder.specs.Endian.{little_number}
 use Rattle.byteorder.specs.Numbers.{little_number-reads_back}
 use Rattle.mt_base.specs.Trace.{Trace, Start, ◌▷◌}
 use Rattle.mt_base.specs.Writing.{joined}
 use Rattle.mt_base.proofs.Fill.{joined-append}
 use Rattle.mt_windows.proofs.Counts.{joined_push}
-use Rattle.mt_windows.specs.declared.limits.TheConstants.{DATAGRAM, NUMBERS, PART, QUEUE, WINDOW}
+use Rattle.mt_windows.specs.declared.limits.TheConstants.{DATAGRAM, NUMBERS, PART, QUEUE}
 use Rattle.carrier.specs.declared.first_layout.Refusal1.TheVariants as refusal
 use Rattle.carrier.specs.declared.state.Reason.{Reason}
 use Rattle.carrier.specs.declared.state.Reason.TheVariants as reason
-use Rattle.carrier.specs.declared.state.Took.{Took}
 use Rattle.carrier.specs.declared.state.Took.TheVariants.{Used, Ignored}
-use Rattle.carrier.specs.Entries.{Entry, Gave, In, Polled, Pulled, Owed, Posted, Next, given, posted, pulled}
-use Rattle.carrier.specs.Perfect.{PerfectFaithful, Comes, Sends, spelled, number_of, bytes_of, sent, waiting, may_send, due, next_number, passed, unpulled, answer_to, answer_by, answered}
+use Rattle.carrier.specs.Entries.{Entry, Gave, In, Polled, Pulled, Owed, Posted, Next, given, pulled}
+use Rattle.carrier.specs.Perfect.{PerfectFaithful, Comes, Sends, spelled, number_of, bytes_of, sent, waiting, may_send, due, next_number, passed, unpulled, answer_by}
 
 -- ---- what was pulled and what was not
 
@@ -29,15 +28,15 @@ bytes_in_order Start h = refl
 bytes_in_order (t ▷ Gave bytes) h = bytes_in_order t h.2
 bytes_in_order (t ▷ In now datagram Used) h =
     split_at (pulled t) (unpulled t ++ bytes_of datagram) (passed t ++ bytes_of datagram)
-        (sym (append_assoc (pulled t) (unpulled t) (bytes_of datagram)) ∙ ap (λ xs. xs ++ bytes_of datagram) (bytes_in_order t h.1))
+    (sym (append_assoc (pulled t) (unpulled t) (bytes_of datagram)) ∙ ap (λ xs. xs ++ bytes_of datagram) (bytes_in_order t h.1))
 bytes_in_order (t ▷ In now datagram (Ignored why)) h = bytes_in_order t h.1
 bytes_in_order (t ▷ Polled now out) h = bytes_in_order t h.1
 bytes_in_order (t ▷ Pulled room bytes) h =
     split_at (pulled t ++ bytes) (drop room (unpulled t)) (passed t)
-        (append_assoc (pulled t) bytes (drop room (unpulled t))
-        ∙ ap (λ xs. pulled t ++ (xs ++ drop room (unpulled t))) h.0
-        ∙ ap (λ xs. pulled t ++ xs) (take-append-drop room (unpulled t))
-        ∙ bytes_in_order t h.1)
+    (append_assoc (pulled t) bytes (drop room (unpulled t))
+    ∙ ap (λ xs. pulled t ++ (xs ++ drop room (unpulled t))) h.0
+    ∙ ap (λ xs. pulled t ++ xs) (take-append-drop room (unpulled t))
+    ∙ bytes_in_order t h.1)
 bytes_in_order (t ▷ Owed count) h = absurd h
 bytes_in_order (t ▷ Posted bytes) h = absurd h
 bytes_in_order (t ▷ Next bytes) h = absurd h
@@ -195,12 +194,13 @@ first_parts a (t ▷ Next bytes) f h c = absurd h
 pub bytes_arrive : (a b : Trace Entry) → PerfectFaithful a → PerfectFaithful b → Comes a b → (rest : List ℕ) × (passed b ++ rest ≡ given a)
 bytes_arrive a b f h c =
     let n = next_number b in
-    let rest = joined (drop n (cut a)) ++ waiting a in
-    (rest,
-        ap (λ xs. xs ++ rest) (first_parts a b f h c)
-        ∙ sym (append_assoc (joined (take n (cut a))) (joined (drop n (cut a))) (waiting a))
-        ∙ ap (λ xs. xs ++ waiting a) (sym (joined-append (take n (cut a)) (drop n (cut a))) ∙ ap joined (take-append-drop n (cut a)))
-        ∙ all_given a f)
+    let rest = joined (drop n (cut a)) ++ waiting a in (
+      rest,
+      ap (λ xs. xs ++ rest) (first_parts a b f h c)
+          ∙ sym (append_assoc (joined (take n (cut a))) (joined (drop n (cut a))) (waiting a))
+          ∙ ap (λ xs. xs ++ waiting a) (sym (joined-append (take n (cut a)) (drop n (cut a))) ∙ ap joined (take-append-drop n (cut a)))
+          ∙ all_given a f,
+    )
 
 pub pulled_arrive : (a b : Trace Entry) → PerfectFaithful a → PerfectFaithful b → Comes a b → (rest : List ℕ) × (pulled b ++ rest ≡ given a)
 pulled_arrive a b f h c =

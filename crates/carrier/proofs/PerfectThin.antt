@@ -1,5 +1,5 @@
 -- Lemmas on perfect links of parts.
-use Rattle.std.proofs.Common.{◌≡◌, ℕ, ◌+◌, ◌-◌, ◌≤◌, ◌<◌, max, Bool, true, false, nat_le, nat_lt, List, [], ◌∷◌, ◌++◌, length, take, drop, Option, Some, None, Result, Ok, Err, if◌then◌else◌, refl, sym, ap, ◌∙◌, append_assoc, append-nil, arith, length-append}
+use Rattle.std.proofs.Common.{◌≡◌, ℕ, ◌+◌, ◌≤◌, max, Bool, true, false, nat_le, nat_lt, List, [], ◌∷◌, ◌++◌, length, drop, Some, Result, Ok, Err, if◌then◌else◌, refl, sym, ap, ◌∙◌, append_assoc, append-nil, arith}
 use Rattle.std.proofs.Math.Seq.{drop-append_seam}
 use Rattle.std.proofs.lemmas.Bool.Decides.{nat_tests}
 use Rattle.mt_base.specs.Trace.{Trace, ◌▷◌}
@@ -10,7 +10,7 @@ use Rattle.carrier.specs.declared.state.Took.{Took}
 use Rattle.carrier.specs.declared.state.Took.TheVariants.{Used, Ignored}
 use Rattle.carrier.specs.Entries.{Entry, In, Next}
 use Rattle.carrier.specs.Perfect.{number_of, bytes_of}
-use Rattle.carrier.specs.PerfectThin.{least_new, taken, handed, kept_parts, past, first_part, part_answer, part_answer_by, part_answered}
+use Rattle.carrier.specs.PerfectThin.{least_new, handed, kept_parts, past, first_part, part_answer, part_answer_by, part_answered}
 use Rattle.carrier.specs.PerfectView.{KeptParts, PostStands, post_took, with_read}
 
 -- what it keeps to be handed out is what was not

@@ -1,7 +1,9 @@
 //! What a link of datagrams is to the crates above it, whatever layout its datagrams have: the
 //! traits [`Carrier`] and [`Post`] of a reliable and of a lossy link, what they answer, and the
 //! refusals of the two datagram layouts. In `specs/` stand the entries and traces of a link, what
-//! was received and sent by them, what is due, and the law that they keep.
+//! was received and sent by them, what is due, and the law that they keep. [`PerfectCarrier`] and
+//! [`PerfectPost`] are links with numbered datagrams and no more, for tests and for ends that need
+//! no real link.
 //!
 //! Below it stand `mt_base` and `mt_windows`, whose definitions of parts and tellings the traces
 //! use. What the crates above use is that a link stands for a trace of its calls that keeps the

@@ -1,4 +1,4 @@
-use Rattle.std.proofs.Common.{◌≡◌, ◌∙◌, ap, arith, length, length-drop}
+use Rattle.std.proofs.Common.{ap, arith, length, length-drop}
 use Rattle.carrier.proofs.perfect_carrier.PerfectCarrierCarrier.poll.Goals as goal
 
 pub returns-clause-load : goal.returns-clause-load
