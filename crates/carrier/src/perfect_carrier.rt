@@ -11,7 +11,7 @@ use crate::reliable::{Carrier, GiveRefusal};
 use crate::state::{LinkState, Reason, Took};
 use byteorder::{ByteOrder, LittleEndian};
 use mt_base::NoMemory;
-use mt_windows::{NUMBERS, PART, QUEUE};
+use mt_windows::{DATAGRAM, NUMBERS, PART, QUEUE};
 use std::alloc::Global;
 use std::collections::VecDeque;
 use std::marker::Model;
@@ -72,7 +72,7 @@ impl PerfectCarrier {
 
     /// What is answered to a part of this number with so many bytes.
     fn answer(&self, number: u64, count: usize) -> Took
-        requires { count ≤ 1224 }
+        requires { count ≤ DATAGRAM }
         ensures { result ≡ answer_to self.now.next (length self.now.arrived) number count }
     {
         if number < self.next {

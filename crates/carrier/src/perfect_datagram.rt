@@ -1,8 +1,7 @@
 //! The datagrams of perfect links: the number of a part in eight bytes, the lowest first, and the
 //! part's bytes.
 
-ghost use Rattle.std.specs.Prelude.{◌≡◌, ◌+◌, ◌≤◌, ◌^◌, ◌<◌, ◌++◌, length, take, drop, IfOk};
-ghost use Rattle.byteorder.specs.Endian.{little_bytes};
+ghost use Rattle.std.specs.Prelude.{◌≡◌, ◌≤◌, length, IfOk};
 ghost use Rattle.carrier.specs.Perfect.{number_of};
 
 use crate::first_layout::Refusal1;
@@ -17,8 +16,8 @@ pub const HEADER: usize = 8;
 /// The number of the part that a datagram shows.
 pub fn read_number(datagram: &[u8]) -> Result<u64, Reason>
     ensures number { result ≡ number_of datagram.now }
-    ensures long { IfOk result (λ n. 8 ≤ length datagram.now) }
-    ensures short { IfOk result (λ n. length datagram.now ≤ 1232) }
+    ensures long { IfOk result (λ n. HEADER ≤ length datagram.now) }
+    ensures short { IfOk result (λ n. length datagram.now ≤ DATAGRAM) }
 {
     if datagram.len() > DATAGRAM {
         return Err(Reason::TooLong);

@@ -10,7 +10,7 @@ ghost use Rattle.carrier.specs.PerfectView.{PostStands, post_took, with_part, wi
 
 use crate::lossy::{Post, PostRefusal};
 use crate::perfect_datagram::{HEADER, read_number};
-use crate::piece::Piece;
+use crate::piece::{Piece, ROOM};
 use crate::state::{LinkState, Reason, Took};
 use byteorder::{ByteOrder, LittleEndian};
 use mt_base::NoMemory;
@@ -94,7 +94,7 @@ impl PerfectPost {
         requires number { number < NUMBERS }
         requires rises { self.old.least ≤ number }
         requires room { length self.old.arrived < WINDOW }
-        requires fits { length bytes.now ≤ 1224 }
+        requires fits { length bytes.now ≤ ROOM }
         ensures { self.new ≡ with_part number bytes.now self.old }
     {
         match self.arrived.push_back(Piece::new(bytes)) {
@@ -137,8 +137,8 @@ impl PerfectPost {
 /// Takes the first part, and writes its bytes to the front of `out`.
 fn put_first(parts: &mut VecDeque<Piece>, out: &mut [u8]) -> usize
     requires some { 0 < length parts.old.items }
-    requires room { 1224 ≤ length out.old }
-    ensures bound { result ≤ 1224 }
+    requires room { ROOM ≤ length out.old }
+    ensures bound { result ≤ ROOM }
     ensures bytes { parts.old.items ≡ take result out.new ∷ parts.new.items }
     ensures capacity { deque_capacity parts.old ≤ deque_capacity parts.new }
 {

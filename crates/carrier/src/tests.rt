@@ -1,4 +1,5 @@
-ghost use Rattle.std.specs.Prelude.{◌<◌, ◌≤◌, ◌^◌, length};
+ghost use Rattle.std.specs.Prelude.{◌≡◌, ◌<◌, ◌≤◌, ◌^◌, [], length};
+ghost use Rattle.mt_base.specs.Trace.{Start};
 
 use super::*;
 use mt_base::Short;
@@ -9,6 +10,24 @@ fn a_cut_field_keeps_its_place(rt: HostRuntime) {
     let short = Short { at: 8, need: 4 };
     assert_eq!(rt; Refusal1::from(short), Refusal1::Short(short));
     assert_eq!(rt; Refusal2::from(short), Refusal2::Short(short));
+}
+
+/// Whether a link to which nothing happened is open.
+fn starts_open<C: Carrier>(link: &C) -> bool
+    requires stands { C.stands link.now Start }
+    requires left { C.left link.now ≡ [] }
+    requires load { C.load link.now ≡ 0 }
+{
+    link.state() == LinkState::Open
+}
+
+/// The same of a link of parts.
+fn post_starts_open<P: Post>(link: &P) -> bool
+    requires stands { P.stands link.now Start }
+    requires left { P.left link.now ≡ [] }
+    requires load { P.load link.now ≡ 0 }
+{
+    link.state() == LinkState::Open
 }
 
 /// Hands the datagram that is due at one end to the other one.
@@ -57,7 +76,7 @@ fn bytes_cross_a_perfect_link(rt: HostRuntime) -> Result<(), Fail> {
     let mut near = PerfectCarrier::new(rt.alloc())?;
     let mut far = PerfectCarrier::new(rt.alloc())?;
     let mut out = [7; 1232];
-    assert_eq!(rt; near.state(), LinkState::Open);
+    assert!(rt; starts_open(&near));
     assert_eq!(rt; near.poll(5, &mut out), None);
     assert_eq!(rt; near.next_due(), None);
     assert_eq!(rt; near.give(&[0x41, 0x42]), Ok(()));
@@ -125,7 +144,7 @@ fn parts_cross_a_perfect_link(rt: HostRuntime) -> Result<(), Fail> {
     let mut near = PerfectPost::new(rt.alloc())?;
     let mut far = PerfectPost::new(rt.alloc())?;
     let mut out = [7; 1232];
-    assert_eq!(rt; near.state(), LinkState::Open);
+    assert!(rt; post_starts_open(&near));
     assert_eq!(rt; near.poll(5, &mut out), None);
     assert_eq!(rt; near.next_due(), None);
     assert_eq!(rt; near.post(&[0x41, 0x42]), Ok(()));
