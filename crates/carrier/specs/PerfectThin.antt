@@ -35,7 +35,7 @@ part_moment t = if may_send (length (unsent t)) (sent t) then Some (moment t) el
 
 -- ---- what is accepted and handed out
 
--- one past the greatest number shown, where a part of this number is accepted
+-- the least number above all of these and above the one that was read, where there is one
 abbrev pub past : ℕ → Result ℕ Reason → ℕ
 past least (Err why) = least
 past least (Ok number) = max least (number + 1)

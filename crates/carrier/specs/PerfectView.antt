@@ -20,6 +20,7 @@ pub record Kept : Type 0 where
   pub next : ℕ
   pub last : ℕ
 
+-- the bounds on which each call rests, whatever came before it
 pub record IsSoundCarrier (s : Kept) : Type 0 where
   pub waiting_fits : length s.waiting ≤ QUEUE
   pub arrived_fits : length s.arrived ≤ QUEUE
@@ -58,6 +59,7 @@ pub record KeptParts : Type 0 where
   pub least : ℕ
   pub last : ℕ
 
+-- its bounds
 pub record IsSoundPost (s : KeptParts) : Type 0 where
   pub waiting_fits : length s.waiting ≤ WINDOW
   pub arrived_fits : length s.arrived ≤ WINDOW
