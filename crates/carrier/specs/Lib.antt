@@ -9,3 +9,6 @@ pub mod LayoutLaw
 pub mod Joined
 pub mod TwoLinks
 pub mod SmallWorld
+pub mod Perfect
+pub mod PerfectThin
+pub mod PerfectView
