@@ -7,3 +7,5 @@ pub mod Law
 pub mod States
 pub mod LayoutLaw
 pub mod Joined
+pub mod TwoLinks
+pub mod SmallWorld

@@ -24,13 +24,22 @@ telling_in ack (Some elements) = Some (Upto ack (flags_of elements))
 abbrev pub shown_by : ℕ → ℕ → Body → Reading
 shown_by ack window (SynBody syn) = Refuses reason.NotOurs
 shown_by ack window (DataBody vector aoa coded start bytes) = Shows (record {
-  window = Some window; telling = telling_in ack vector; floor = aoa; load = Carries start coded bytes;
+  window = Some window;
+  telling = telling_in ack vector;
+  floor = aoa;
+  load = Carries start coded bytes;
 })
 shown_by ack window (FecBody vector aoa coded start range index bytes) = Shows (record {
-  window = Some window; telling = telling_in ack vector; floor = aoa; load = Correction;
+  window = Some window;
+  telling = telling_in ack vector;
+  floor = aoa;
+  load = Correction;
 })
 shown_by ack window (BareBody vector aoa rest) = Shows (record {
-  window = Some window; telling = telling_in ack vector; floor = aoa; load = Empty;
+  window = Some window;
+  telling = telling_in ack vector;
+  floor = aoa;
+  load = Empty;
 })
 
 abbrev pub packet_shows : Result Packet Refusal1 → Reading
@@ -85,7 +94,10 @@ body_of d (Some c) =
 
 abbrev pub packet_with : Datagram → Packet
 packet_with d = record {
-  ack = low (named_in d.telling); window = WINDOW; marks = 0; body = body_of d d.load;
+  ack = low (named_in d.telling);
+  window = WINDOW;
+  marks = 0;
+  body = body_of d d.load;
 }
 
 -- ---- the layout

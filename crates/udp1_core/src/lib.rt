@@ -1,7 +1,22 @@
-//! The machine of a reliable link whose datagrams have the first layout.
+//! The machine of a reliable link whose datagrams have the first layout (MS-RDPEUDP section 2.2),
+//! versions 1 and 2, from the moment on at which its ends have agreed.
+//!
+//! Below it stand `mt_windows` with its windows, `udp1_packets` and `ack_vector`, which read and
+//! write these datagrams, and `carrier` with what a link is. What the crates above use is that
+//! [`Udp1Core`] is a `Carrier` whose traces are faithful to the first layout, and that this is a
+//! layout that reads back what it spells ([`first_layout_is_read`]).
 #![tactic(auto)]
 
 mod choice;
+mod contents;
+mod laws;
+mod machine;
 mod numbers;
 mod receiver;
 mod sender;
+
+pub use laws::{first_layout_is_read, one_part_goes_over};
+pub use machine::Udp1Core;
+
+#[cfg(test)]
+mod tests;

@@ -1,9 +1,10 @@
 //! The receiving half of the machine: the window of parts, the floor, and the tellings owed.
 
-ghost use Rattle.std.specs.Prelude.{◌≡◌, ◌+◌, ◌-◌, ◌<◌, ◌≤◌, ◌^◌, ◌++◌, ◌∷◌, [], ℕ, Bool, List, Option, Some, None, length, take, drop, replicate, min, if◌then◌else◌, is_some, IfOk, option_map, option_copied};
+ghost use Rattle.std.specs.Prelude.{◌≡◌, ◌+◌, ◌-◌, ◌<◌, ◌≤◌, ◌^◌, ◌++◌, ◌∷◌, [], ℕ, Bool, List, Option, Some, None, length, take, drop, replicate, min, if◌then◌else◌, is_some, All, IfOk, option_map, option_copied};
 ghost use Rattle.mt_base.specs.Nearness.{nearest};
 ghost use Rattle.mt_windows.specs.Arrived.{Parts, passed, has_part};
 ghost use Rattle.mt_windows.specs.ArrivedView.{left_of};
+ghost use Rattle.ack_vector.specs.Elements.{IsGood};
 ghost use Rattle.ack_vector.specs.Longest.{elements_of};
 ghost use Rattle.udp1_packets.specs.Views.{packet_of};
 ghost use Rattle.udp1_packets.specs.Layout.{spelled};
@@ -146,7 +147,7 @@ impl Receiver {
             let load = Carries start coded bytes.now in
             Hears self.old got.parts n floor owed →
             Hears self.new (parts_with layout got n (arrival layout got n load)) n floor
-                (if is_some (taken layout got n load) then owed ++ at ∷ [] else owed) }
+            (if is_some (taken layout got n load) then owed ++ at ∷ [] else owed) }
         ensures peer { self.new.peer ≡ self.old.peer }
         ensures delay { self.new.delay ≡ self.old.delay }
         ensures left { (more : List ℕ) × (left_of self.new.inbox ≡ left_of self.old.inbox ++ more) }
@@ -190,7 +191,7 @@ impl Receiver {
             let after = receives layout got n (Some shown) in
             Hears self.old got.parts n old owed →
             Hears self.new after.parts n (floor_shown layout got n after old (Some shown))
-                (if owes layout got n (Some shown) then owed ++ at ∷ [] else owed) }
+            (if owes layout got n (Some shown) then owed ++ at ∷ [] else owed) }
         ensures peer { self.new.peer ≡ self.old.peer }
         ensures delay { self.new.delay ≡ self.old.delay }
         ensures left { (more : List ℕ) × (left_of self.new.inbox ≡ left_of self.old.inbox ++ more) }
@@ -248,15 +249,24 @@ impl Receiver {
     /// Writes the elements of the vector that tells what was received, and gives how many.
     fn elements(&self, out: &mut [u8; 64]) -> usize
         ensures bound { result ≤ 64 }
+        ensures good { All IsGood (take result out.new) }
         ensures elements { (parts : Parts) (n floor : ℕ) (owed : List ℕ) → Hears self.now parts n floor owed →
             take result out.new ≡ elements_of (flags_in (telling_of self.now.peer floor parts)) }
     {
         let named = self.named();
-        let from = self.peer.max(self.floor).max(named.saturating_sub(WINDOW - 1));
-        let count = if from <= named { (named - from + 1) as usize } else { 0 };
+        let from = self
+            .peer
+            .max(self.floor)
+            .max(named.saturating_sub(WINDOW - 1));
+        let count = if from <= named {
+            (named - from + 1) as usize
+        } else {
+            0
+        };
         let mut flags = [false; 64];
-        self.mark(from, &mut flags[..count]);
-        match write_runs(&flags[..count], out) {
+        let flags = &mut flags[..count];
+        self.mark(from, flags);
+        match write_runs(flags, out) {
             Ok(length) => length,
             Err(_) => unreachable!(),
         }
@@ -291,6 +301,7 @@ impl Receiver {
         ensures delay { self.new.delay ≡ self.old.delay }
         ensures inbox { self.new.inbox ≡ self.old.inbox }
     {
+        let named = self.named();
         let mut elements = [0; 64];
         let mut vector = None;
         if numbers.is_none() || self.owed > 0 {
@@ -298,7 +309,7 @@ impl Receiver {
             vector = Some(&elements[..count]);
             self.owed = 0;
         }
-        let packet = head_packet(self.named(), vector, floor, numbers);
+        let packet = head_packet(named, vector, floor, numbers);
         match write1(&packet, out) {
             Ok(length) => length,
             Err(_) => unreachable!(),
