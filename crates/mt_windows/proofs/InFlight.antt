@@ -60,6 +60,13 @@ pub bytes_append : (xs ys : List Flight) → bytes_in (xs ++ ys) ≡ bytes_in xs
 bytes_append [] ys = omega arith
 bytes_append (x ∷ xs) ys = omega (arith, bytes_append xs ys)
 
+pub bytes_none : (n : ℕ) → bytes_in (no_flights n) ≡ 0
+bytes_none zero = refl
+bytes_none (suc n) = omega (arith, bytes_none n)
+
+pub queued_none : (n : ℕ) (xs : List ℕ) (flights : List Flight) → xs ≡ [] → flights ≡ no_flights n → length xs + bytes_in flights ≡ 0
+queued_none n xs flights no_bytes empty = omega (arith, ap length no_bytes, ap bytes_in empty, bytes_none n)
+
 pub bytes_turned : (xs : List Flight) → bytes_in (drop 1 xs ++ take 1 xs) ≡ bytes_in xs
 bytes_turned [] = refl
 bytes_turned (x ∷ xs) = bytes_append xs (x ∷ []) ∙ (let e : bytes_in xs + (length (unwrap_or x.slot []) + 0) ≡ length (unwrap_or x.slot []) + bytes_in xs = omega arith in e)

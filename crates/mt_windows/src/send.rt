@@ -64,7 +64,8 @@ impl<W: Width> SendWindow<W> {
     pub fn new(alloc: Global, first: u64) -> Result<SendWindow<W>, NoMemory>
         requires from { 1 ≤ first }
         requires below { first < 2 ^ 33 }
-        ensures { IfOk result (λ w. Sends w first Start) }
+        ensures stands { IfOk result (λ w. Sends w first Start) }
+        ensures queued { IfOk result (λ w. queued_of w ≡ 0) }
     {
         let waiting = VecDeque::with_capacity(alloc, QUEUE)?;
         let flights = empty_flights(alloc, WINDOW as usize)?;
@@ -88,7 +89,8 @@ impl<W: Width> SendWindow<W> {
     pub fn restart(&mut self, first: u64)
         requires from { 1 ≤ first }
         requires below { first < 2 ^ 33 }
-        ensures { Sends self.new first Start }
+        ensures stands { Sends self.new first Start }
+        ensures queued { queued_of self.new ≡ 0 }
     {
         self.first = first;
         self.base = 0;
@@ -158,7 +160,8 @@ impl<W: Width> SendWindow<W> {
 
     /// The greatest part cut, one less than the first number where there is none.
     pub fn last_cut(&self) -> u64
-        ensures { (first : ℕ) (t : Trace Act) → Sends self.now first t → result + 1 ≡ first + cuts t }
+        ensures history { (first : ℕ) (t : Trace Act) → Sends self.now first t → result + 1 ≡ first + cuts t }
+        ensures bound { result < 2 ^ 62 }
     {
         self.first + self.cut - 1
     }

@@ -1,12 +1,12 @@
 //! The sending half of the machine: the window of parts, what the other end told, and the timer.
 
-ghost use Rattle.std.specs.Prelude.{◌≡◌, ◌+◌, ◌-◌, ◌*◌, ◌<◌, ◌≤◌, ◌^◌, ◌∷◌, ◌&&◌, ℕ, Bool, List, Option, Some, None, true, All, length, take, drop, min, nat_le, is_some, if◌then◌else◌, IfOk, IfSome, OnOk, OnErr, Ok, Err, nat_lt, option_copied, option_map};
+ghost use Rattle.std.specs.Prelude.{◌≡◌, ◌+◌, ◌-◌, ◌*◌, ◌<◌, ◌≤◌, ◌^◌, ◌∷◌, ◌&&◌, ◌||◌, ℕ, Bool, List, Option, Some, None, true, All, length, take, drop, min, nat_le, is_some, if◌then◌else◌, IfOk, IfSome, OnOk, OnErr, Ok, Err, nat_lt, option_copied, option_map};
 ghost use Rattle.mt_base.specs.Trace.{Trace, Start, ◌▷◌};
 ghost use Rattle.mt_base.specs.Nearness.{nearest};
 ghost use Rattle.ack_vector.specs.Elements.{IsGood, flags_of};
 ghost use Rattle.mt_windows.specs.Sending.Act.{Gave, Cut, Resent};
-ghost use Rattle.mt_windows.specs.Sending.{Act, cuts, transmissions, next_piece, piece, lowest_or_next};
-ghost use Rattle.mt_windows.specs.SendingView.{limits, queued_of, reach_of, next_transmission, is_unsettled, may_cut_of};
+ghost use Rattle.mt_windows.specs.Sending.{Act, cuts, transmissions, next_piece, piece, lowest, lowest_or_next, settles_part, tells_part};
+ghost use Rattle.mt_windows.specs.SendingView.{Sends, limits, queued_of, reach_of, next_transmission, is_unsettled, may_cut_of};
 ghost use Rattle.carrier.specs.Layout.{Telling, Upto, bounded, tells, read_near};
 ghost use Rattle.carrier.specs.Sending.{Timer, hears_telling, expiry, is_over, is_waiting, expires, settles, tell_all, told_reference, timer_told};
 ghost use Rattle.carrier.specs.Due.{may_send};
@@ -119,8 +119,8 @@ impl Sender {
 
     /// Whether more expiries came in a row than a link survives.
     pub fn is_closed(&self) -> bool
-        ensures exact { result ≡ nat_lt 16 self.now.timer.expiries }
         ensures over { (delay peer : ℕ) → result ≡ is_over (layout_out self.now delay peer) self.now.timer }
+        ensures value { result ≡ nat_lt 16 self.now.timer.expiries }
     {
         EXPIRIES < self.expiries
     }
@@ -149,7 +149,7 @@ impl Sender {
         ensures own { self.new.own ≡ self.old.own }
         ensures wait { self.new.wait ≡ self.old.wait }
         ensures queued { queued_of self.new.outbox ≤ queued_of self.old.outbox }
-        ensures closed { 16 < self.old.timer.expiries → 16 < self.new.timer.expiries }
+        ensures open { self.old.timer.expiries ≤ 16 → self.new.timer.expiries ≤ 16 }
     {
         self.told = u64::from(window);
         let Some(elements) = vector else {
@@ -158,10 +158,11 @@ impl Sender {
         let Some(named) = self.read(named) else {
             return;
         };
-        if self.settle(named, elements) {
-            self.start = at;
-            self.expiries = 0;
+        if !self.settle(named, elements) {
+            return;
         }
+        self.start = at;
+        self.expiries = 0;
     }
 
     /// Takes each unsettled part as received that is told so; whether one became settled.
@@ -178,17 +179,30 @@ impl Sender {
     {
         let mut settled = false;
         for part in self.window.floor_part()..self.window.last_cut() + 1 {
-            if told(elements, named, part) == Some(true) && self.window.tell_part(part) {
-                settled = true;
-            }
+            settled |= self.settle_part(named, elements, part);
         }
         settled
     }
 
+    /// Takes the part as received where it is told so; whether it became settled.
+    fn settle_part(&mut self, named: u64, elements: &[u8], part: u64) -> bool
+        requires { All IsGood elements.now }
+        ensures settled { (first : ℕ) (acts : Trace Act) → Sends self.old.outbox first acts →
+            result ≡ tells (Upto named (flags_of elements.now)) part && settles_part limits first acts part }
+        ensures sends { (first : ℕ) (acts : Trace Act) → Sends self.old.outbox first acts →
+            Sends self.new.outbox first (if tells (Upto named (flags_of elements.now)) part then tells_part first part acts else acts) }
+        ensures own { self.new.own ≡ self.old.own }
+        ensures wait { self.new.wait ≡ self.old.wait }
+        ensures told { self.new.told ≡ self.old.told }
+        ensures timer { self.new.timer ≡ self.old.timer }
+        ensures queued { queued_of self.new.outbox ≤ queued_of self.old.outbox }
+    {
+        told(elements, named, part).unwrap_or(false) && self.window.tell_part(part)
+    }
+
     /// Whether a part is unsettled.
     fn is_waiting(&self) -> bool
-        ensures { (delay peer : ℕ) (acts : Trace Act) (told : ℕ) (timer : Timer) → Speaks self.now acts told timer →
-            result ≡ is_waiting (layout_out self.now delay peer) acts }
+        ensures { (first : ℕ) (acts : Trace Act) → Sends self.now.outbox first acts → result ≡ is_some (lowest limits acts) }
     {
         self.window.lowest().is_some()
     }
@@ -201,12 +215,34 @@ impl Sender {
         self.start + (self.wait << self.expiries.min(4))
     }
 
-    /// Whether a poll at this moment is an expiry.
+    /// Whether the timer runs and has expired at this moment.
     fn expires(&self, at: u64) -> bool
         ensures { (delay peer : ℕ) (acts : Trace Act) (told : ℕ) (timer : Timer) → Speaks self.now acts told timer →
-            result ≡ expires (layout_out self.now delay peer) timer acts at }
+            let layout = layout_out self.now delay peer in
+            result ≡ is_waiting layout acts && nat_le (expiry layout timer) at }
     {
-        self.expiries <= EXPIRIES && self.is_waiting() && self.expiry() <= at
+        self.is_waiting() && self.expiry() <= at
+    }
+
+    /// Counts an expiry where the timer expires at this moment; whether it does.
+    fn count_expiry(&mut self, at: u64) -> bool
+        requires moment { at < 2 ^ 62 }
+        requires open { self.old.timer.expiries ≤ 16 }
+        ensures expires { (delay peer : ℕ) (acts : Trace Act) (told : ℕ) (timer : Timer) → Speaks self.old acts told timer →
+            result ≡ expires (layout_out self.old delay peer) timer acts at }
+        ensures stands { (delay peer : ℕ) (acts : Trace Act) (told : ℕ) (timer : Timer) → Speaks self.old acts told timer →
+            Speaks self.new acts told (timer_at (layout_out self.old delay peer) acts timer at) }
+        ensures expiries { self.new.timer.expiries ≡ (if result then self.old.timer.expiries + 1 else self.old.timer.expiries) }
+        ensures outbox { self.new.outbox ≡ self.old.outbox }
+        ensures own { self.new.own ≡ self.old.own }
+        ensures wait { self.new.wait ≡ self.old.wait }
+    {
+        if !self.expires(at) {
+            return false;
+        }
+        self.start = at;
+        self.expiries += 1;
+        true
     }
 
     /// Whether another transmission may be made.
@@ -238,13 +274,9 @@ impl Sender {
         if self.is_closed() {
             return Choice::Silent;
         }
-        let expired = self.expires(at);
-        if expired {
-            self.start = at;
-            self.expiries += 1;
-            if self.is_closed() {
-                return Choice::Silent;
-            }
+        let expired = self.count_expiry(at);
+        if self.is_closed() {
+            return Choice::Silent;
         }
         self.first_of(expired)
     }
@@ -259,10 +291,8 @@ impl Sender {
             (expired ≡ true → is_waiting (layout_out self.now delay peer) acts ≡ true) →
             result ≡ first_choice (layout_out self.now delay peer) acts told expired }
     {
-        if self.may_send() {
-            if let Some(part) = self.again(expired) {
-                return Choice::Again { part };
-            }
+        if let Some(part) = self.again(expired) {
+            return Choice::Again { part };
         }
         if self.window.may_cut(self.told) {
             return Choice::Fresh;
@@ -270,14 +300,20 @@ impl Sender {
         Choice::Telling
     }
 
-    /// The part that is sent again: the lowest unsettled one at an expiry, else the lowest one that
-    /// was passed over.
+    /// The part that is sent again, where another transmission may be made: the lowest unsettled one
+    /// at an expiry, else the lowest one that was passed over.
     fn again(&self, expired: bool) -> Option<u64>
         ensures unsettled { IfSome result (λ part. is_unsettled self.now.outbox part ≡ true) }
+        ensures reach { IfSome result (λ part. reach_of self.now.outbox < 4096) }
+        ensures number { IfSome result (λ part. next_transmission self.now.outbox < 2 ^ 62) }
         ensures part { (delay peer : ℕ) (acts : Trace Act) (told : ℕ) (timer : Timer) → Speaks self.now acts told timer →
             (expired ≡ true → is_waiting (layout_out self.now delay peer) acts ≡ true) →
-            result ≡ again_part (layout_out self.now delay peer) acts expired }
+            let layout = layout_out self.now delay peer in
+            result ≡ (if may_send layout acts then again_part layout acts expired else None) }
     {
+        if !self.may_send() {
+            return None;
+        }
         if expired {
             self.window.lowest()
         } else {
@@ -318,10 +354,25 @@ impl Sender {
         ensures own { self.new.own ≡ self.old.own }
         ensures wait { self.new.wait ≡ self.old.wait }
     {
-        if !self.is_waiting() {
-            self.start = at;
-        }
+        self.begin(at);
         self.window.cut(self.told, out).length
+    }
+
+    /// Starts the timer at this moment, where no part is unsettled.
+    fn begin(&mut self, at: u64)
+        requires { at < 2 ^ 62 }
+        ensures stands { (delay peer : ℕ) (acts : Trace Act) (told : ℕ) (timer : Timer) → Speaks self.old acts told timer →
+            Speaks self.new acts told (timer_begun (layout_out self.old delay peer) acts timer at) }
+        ensures outbox { self.new.outbox ≡ self.old.outbox }
+        ensures told { self.new.told ≡ self.old.told }
+        ensures expiries { self.new.timer.expiries ≡ self.old.timer.expiries }
+        ensures own { self.new.own ≡ self.old.own }
+        ensures wait { self.new.wait ≡ self.old.wait }
+    {
+        if self.is_waiting() {
+            return;
+        }
+        self.start = at;
     }
 
     /// Writes an unsettled part out again, and gives its length.
@@ -348,7 +399,7 @@ impl Sender {
         ensures { (delay peer : ℕ) (acts : Trace Act) (told : ℕ) (timer : Timer) → Speaks self.now acts told timer →
             result ≡ is_ready (layout_out self.now delay peer) acts told }
     {
-        (self.may_send() && self.window.passed_over().is_some()) || self.window.may_cut(self.told)
+        self.again(false).is_some() || self.window.may_cut(self.told)
     }
 
     /// The moment of the next expiry that sends a part or closes the link.
@@ -356,9 +407,17 @@ impl Sender {
         ensures { (delay peer : ℕ) (acts : Trace Act) (told : ℕ) (timer : Timer) → Speaks self.now acts told timer →
             result ≡ next_expiry (layout_out self.now delay peer) acts timer }
     {
-        if self.is_waiting() && (self.may_send() || EXPIRIES <= self.expiries) {
+        if self.is_waiting() && self.is_expiry_used() {
             return Some(self.expiry());
         }
         None
+    }
+
+    /// Whether an expiry sends a part or closes the link.
+    fn is_expiry_used(&self) -> bool
+        ensures { (delay peer : ℕ) (acts : Trace Act) (told : ℕ) (timer : Timer) → Speaks self.now acts told timer →
+            result ≡ may_send (layout_out self.now delay peer) acts || nat_le 16 timer.expiries }
+    {
+        self.may_send() || EXPIRIES <= self.expiries
     }
 }

@@ -1,9 +1,12 @@
 use Rattle.std.proofs.Common.{arith}
-use Rattle.mt_windows.proofs.InFlight.{starts_out, sound_start}
+use Rattle.mt_windows.proofs.InFlight.{starts_out, sound_start, queued_none}
 use Rattle.mt_windows.proofs.send.SendWindow.new.Goals as goal
 
-pub returns : goal.returns
-returns g c = starts_out c.args.first 64 _ _ _ c.in_ok-waiting.ensures.items c.in_ok-carried.ensures.items c.in_ok-flights.ensures
+pub returns-clause-stands : goal.returns-clause-stands
+returns-clause-stands g c = starts_out c.args.first 64 _ _ _ c.in_ok-waiting.ensures.items c.in_ok-carried.ensures.items c.in_ok-flights.ensures
+
+pub returns-clause-queued : goal.returns-clause-queued
+returns-clause-queued g c = queued_none 64 _ _ c.in_ok-waiting.ensures.items c.in_ok-flights.ensures
 
 pub invariant_of-result : goal.invariant_of-result
 invariant_of-result g c = record {
