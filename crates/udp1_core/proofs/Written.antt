@@ -53,3 +53,7 @@ part_back part own p is = omega (arith, is)
 -- a part's number and that of its transmission
 abbrev pub numbers_of : ℕ → ℕ → Numbers
 numbers_of part transmission = record { part = part; transmission = transmission }
+
+-- a part that is sent again is near to the last one cut
+pub near_place : (part own cut p : ℕ) → part ≡ own + p → own + cut ≤ part + 64 → cut ≤ p + 64
+near_place part own cut p is near = omega (arith, is, near)

@@ -5,7 +5,7 @@ ghost use Rattle.mt_base.specs.Trace.{Trace, Start, ◌▷◌};
 ghost use Rattle.mt_windows.specs.Arrived.{Parts};
 ghost use Rattle.mt_windows.specs.ArrivedView.{left_of};
 ghost use Rattle.mt_windows.specs.Sending.Act.{Cut, Resent};
-ghost use Rattle.mt_windows.specs.Sending.{Act, lowest_or_next};
+ghost use Rattle.mt_windows.specs.Sending.{Act, cuts, lowest_or_next};
 ghost use Rattle.mt_windows.specs.SendingView.{limits, queued_of, is_unsettled, reach_of, next_transmission, may_cut_of};
 ghost use Rattle.udp1_packets.specs.Layout.{spelled};
 ghost use Rattle.carrier.specs.Entries.{Entry, In, Polled, Owed};
@@ -179,6 +179,8 @@ impl Udp1Core {
             (Some (self.old.sender.own + lowest_or_next limits acts)) (again_load self.old.sender.own p acts))) }
         ensures carried { (p : ℕ) (acts : Trace Act) (told : ℕ) (timer : Timer) → part ≡ self.old.sender.own + p →
             Speaks self.old.sender acts told timer → IsCarried (layout_of self.old) (again_load self.old.sender.own p acts) }
+        ensures near { (p : ℕ) (acts : Trace Act) (told : ℕ) (timer : Timer) → part ≡ self.old.sender.own + p →
+            Speaks self.old.sender acts told timer → cuts acts ≤ p + 64 }
         ensures sends { (p : ℕ) (acts : Trace Act) (told : ℕ) (timer : Timer) → part ≡ self.old.sender.own + p →
             Speaks self.old.sender acts told timer → Speaks self.new.sender (acts ▷ Resent p) told timer }
         ensures hears { (parts : Parts) (n floor : ℕ) (owed : List ℕ) → Hears self.old.receiver parts n floor owed →

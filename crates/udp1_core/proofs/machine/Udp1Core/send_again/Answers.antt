@@ -3,13 +3,13 @@ use Rattle.mt_base.specs.Trace.{◌▷◌}
 use Rattle.mt_windows.specs.Sending.Act.{Resent}
 use Rattle.udp1_core.specs.ReceiverView.{Hears}
 use Rattle.udp1_core.specs.SenderView.{Speaks}
-use Rattle.mt_windows.specs.Sending.{lowest_or_next, piece}
+use Rattle.mt_windows.specs.Sending.{cuts, lowest_or_next, piece}
 use Rattle.mt_windows.specs.SendingView.{limits}
 use Rattle.udp1_core.specs.MachineView.{layout_of, carries, again_load}
 use Rattle.udp1_packets.specs.Layout.{spelled}
 use Rattle.carrier.specs.LayoutLaw.{IsCarried}
 use Rattle.udp1_core.specs.FirstLayout.{packet_with}
-use Rattle.udp1_core.proofs.Written.{part_written, front_carried, part_back, numbers_of}
+use Rattle.udp1_core.proofs.Written.{part_written, front_carried, part_back, near_place, numbers_of}
 use Rattle.udp1_core.proofs.machine.Udp1Core.send_again.Goals as goal
 
 -- the place of the part
@@ -45,3 +45,8 @@ returns-clause-sends c p acts told timer part_is speaks =
 pub returns-clause-hears : goal.returns-clause-hears
 returns-clause-hears c parts n floor owed hears =
     c.head-head.ensures.stands parts n floor owed (subst (λ m. Hears m.receiver parts n floor owed) (sym c.self.view_is) hears)
+
+pub returns-clause-near : goal.returns-clause-near
+returns-clause-near c p acts told timer part_is speaks =
+    let says = subst (λ m. Speaks m.sender acts told timer) (sym c.self.view_is) speaks in
+    near_place c.args.part c.self.inside.sender.own (cuts acts) p (part_is ∙ ap (λ m. m.sender.own + p) (sym c.self.view_is)) (c.resend-length.ensures.near acts told timer says)
