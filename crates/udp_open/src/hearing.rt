@@ -26,7 +26,7 @@ const VERSION_1: u16 = 0x0001;
 /// The version that an opening names: 0x0001 where no extension says that it names one.
 fn version_in(extension: Option<Extension<'_>>) -> u16
     requires { IfSome (option_map extended_of extension) (λ e. is_valid e.flags ≡ true → IsVersion e.version) }
-    ensures value { result ≡ version_in (option_map extended_of extension) }
+    ensures value { result ≡ version_in (option_map extended_of extension.entry) }
     ensures known { IsVersion result }
 {
     match extension {
@@ -37,7 +37,7 @@ fn version_in(extension: Option<Extension<'_>>) -> u16
 
 /// Whether an opening shows no hash of a cookie but this one.
 fn knows(hash: &[u8; 32], extension: Option<Extension<'_>>) -> bool
-    ensures { result ≡ knows hash.now (option_map extended_of extension) }
+    ensures { result ≡ knows hash.now (option_map extended_of extension.entry) }
 {
     match extension {
         Some(extension) => match extension.hash {
