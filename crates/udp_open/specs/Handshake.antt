@@ -161,16 +161,17 @@ is_asking Server a = false
 is_asking Client None = true
 is_asking Client (Some a) = false
 
-abbrev pub timer_heard : Option Timer → Option Agreement → Option Timer
-timer_heard timer None = timer
-timer_heard timer (Some a) = None
+abbrev pub timer_by : Option Timer → Result Agreement Reason → Option Timer
+timer_by timer (Ok a) = None
+timer_by timer (Err why) = timer
 
 -- The timer, which runs from the first SYN on until its answer is taken, and starts anew at each
 -- expiry.
 abbrev pub timer : OpenSettings → Trace Entry → Option Timer
 timer settings Start = None
 timer settings (t ▷ In now datagram took) =
-    timer_heard (timer settings t) (agreed settings (t ▷ In now datagram took))
+    if has_effect took then timer_by (timer settings t) (hears settings (agreed settings t) (shown datagram))
+    else timer settings t
 timer settings (t ▷ Polled now out) =
     let at = max (moment t) now in
     if is_asking settings.role (agreed settings t) && is_time (timer settings t) at
