@@ -1,5 +1,5 @@
 -- What an opening stands for.
-use Rattle.std.specs.Prelude.{◌≡◌, ◌⊎◌, ℕ, ◌<◌, ◌≤◌, ◌^◌, nat_le, max, if◌then◌else◌, Option, Some, None, IfSome}
+use Rattle.std.specs.Prelude.{◌≡◌, ◌⊎◌, ℕ, ◌<◌, ◌≤◌, ◌^◌, nat_le, max, List, if◌then◌else◌, Option, Some, None, IfSome}
 use Rattle.mt_base.specs.declared.kinds.Role.TheVariants.{Client}
 use Rattle.mt_base.specs.Trace.{Trace}
 use Rattle.carrier.specs.Entries.{Entry, moment}
@@ -34,14 +34,25 @@ pub record IsSound (o : Handshake) : Type 0 where
   pub agreed_is : IfSome o.agreement (λ a. IsOffered a.version)
   pub timer_is : IfSome o.timer IsTimer
   pub client_owes : (o.settings).role ≡ Client → o.owed ≡ 0
+  pub none_owed : o.agreement ≡ None → o.owed ≡ 0
 
--- this opening stands for this trace
-pub record StandsOpen (o : Handshake) (t : Trace Entry) : Type 0 where
+-- This opening is what the datagrams that came and the polls of this trace made of it. The trace may
+-- be that of a link which has other calls too, and which answers and sends more than its opening.
+pub record Follows (o : Handshake) (t : Trace Entry) : Type 0 where
   pub moment_is : o.moment ≡ moment t
   pub agreement_is : o.agreement ≡ agreed o.settings t
   pub owed_is : o.owed ≡ owed o.settings t
   pub timer_is : o.timer ≡ timer o.settings t
+
+-- this opening stands for this trace of its own calls
+pub record StandsOpen (o : Handshake) (t : Trace Entry) : Type 0 where
+  pub follows : Follows o t
   pub opens : Opens o.settings t
+
+-- a link sends what its opening sends, and where that is nothing what it likes
+abbrev pub SendsFirst : Option (List ℕ) → Option (List ℕ) → Type 0
+SendsFirst None out = Unit {0}
+SendsFirst (Some bytes) out = out ≡ Some bytes
 
 -- how an opening ends
 abbrev pub end_of : Option Agreement → OpenEnd

@@ -1,12 +1,14 @@
 //! The opening of a link.
 
-ghost use Rattle.std.specs.Prelude.{◌≡◌, ◌-◌, ◌<◌, ◌^◌, true, nat_lt, if◌then◌else◌, Some, None, Ok, take, option_map, IfSome};
+ghost use Rattle.std.specs.Prelude.{ℕ, ◌≡◌, ◌-◌, ◌<◌, ◌^◌, List, true, not, nat_lt, Option, if◌then◌else◌, Some, None, Ok, take, option_map, IfSome};
 ghost use Rattle.mt_base.specs.declared.kinds.Role.TheVariants.{Client as IsClient};
 ghost use Rattle.mt_base.specs.Trace.{Trace, Start, ◌▷◌};
+ghost use Rattle.carrier.specs.declared.state.Took.{Took};
 ghost use Rattle.carrier.specs.Entries.{Entry, In, Polled};
+ghost use Rattle.carrier.specs.Receiving.{has_effect};
 ghost use Rattle.udp1_packets.specs.Layout.{spelled};
-ghost use Rattle.udp_open.specs.Handshake.{agreed, expiries, row, asked, is_time, started, owed_by, syn_ack, IsNextDue};
-ghost use Rattle.udp_open.specs.OpeningView.{IsOffered, IsTimer, StandsOpen, end_of, after_asking, next_syn};
+ghost use Rattle.udp_open.specs.Handshake.{agreed, expiries, row, is_closed, asked, is_time, started, owed_by, syn_ack, opening_answered, opening_due, IsNextDue};
+ghost use Rattle.udp_open.specs.OpeningView.{IsOffered, IsTimer, Follows, StandsOpen, SendsFirst, end_of, after_asking, next_syn};
 
 use crate::agreement::Agreement;
 use crate::hearing::hear;
@@ -70,6 +72,12 @@ impl Opening {
         requires moment { now < 2 ^ 62 }
         ensures trace { (t : Trace Entry) → StandsOpen self.old t →
             StandsOpen self.new (t ▷ In now datagram.now result) }
+        ensures answer { (t : Trace Entry) → Follows self.old t →
+            result ≡ opening_answered self.old.settings t datagram.now }
+        // A link of this opening may answer otherwise.
+        ensures follows { (t : Trace Entry) (took : Took) → Follows self.old t →
+            has_effect took ≡ not (is_closed self.old.settings t) →
+            Follows self.new (t ▷ In now datagram.now took) }
         ensures settings { self.new.settings ≡ self.old.settings }
     {
         self.moment = self.moment.max(now);
@@ -92,6 +100,12 @@ impl Opening {
         ensures whole { IfSome result (λ n. n ≡ 1232) }
         ensures trace { (t : Trace Entry) → StandsOpen self.old t →
             StandsOpen self.new (t ▷ Polled now (option_map (λ n. take n out.new) result)) }
+        ensures due { (t : Trace Entry) → Follows self.old t →
+            option_map (λ n. take n out.new) result ≡ opening_due self.old.settings t now }
+        // A link of this opening may send something where this sends nothing.
+        ensures follows { (t : Trace Entry) (out_after : Option (List ℕ)) → Follows self.old t →
+            SendsFirst (option_map (λ n. take n out.new) result) out_after →
+            Follows self.new (t ▷ Polled now out_after) }
         ensures settings { self.new.settings ≡ self.old.settings }
     {
         self.moment = self.moment.max(now);
@@ -179,7 +193,7 @@ impl Opening {
 
     /// What the ends agreed on.
     pub fn end(&self) -> OpenEnd
-        ensures { (t : Trace Entry) → StandsOpen self.now t →
+        ensures { (t : Trace Entry) → Follows self.now t →
             result ≡ end_of (agreed self.now.settings t) }
     {
         match self.agreement {
@@ -194,7 +208,7 @@ impl Opening {
     /// How many expiries came in a row while the SYN was not answered. At 17 the link is closed for
     /// good.
     pub fn expiries(&self) -> u32
-        ensures trace { (t : Trace Entry) → StandsOpen self.now t →
+        ensures trace { (t : Trace Entry) → Follows self.now t →
             result ≡ expiries self.now.settings t }
         ensures value { result ≡ row self.now.timer }
     {
@@ -228,7 +242,7 @@ impl Opening {
     /// The least moment, from the last one on, at which `poll` would give a datagram or close the
     /// link if no other call came; `None` where there is none.
     pub fn next_due(&self) -> Option<u64>
-        ensures { (t : Trace Entry) → StandsOpen self.now t →
+        ensures { (t : Trace Entry) → Follows self.now t →
             IsNextDue self.now.settings t result }
     {
         match (self.settings.role, self.agreement) {
