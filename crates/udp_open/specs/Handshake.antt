@@ -7,7 +7,6 @@ use Rattle.mt_base.specs.declared.kinds.Role.{Role}
 use Rattle.mt_base.specs.declared.kinds.Role.TheVariants.{Server, Client}
 use Rattle.mt_base.specs.declared.kinds.Kind.{Kind}
 use Rattle.mt_base.specs.declared.kinds.Kind.TheVariants.{Reliable, Lossy}
-use Rattle.mt_base.specs.Reading.{Left}
 use Rattle.mt_base.specs.Trace.{Trace, Start, ◌▷◌}
 use Rattle.mt_windows.specs.declared.limits.TheConstants.{WINDOW, DATAGRAM}
 use Rattle.carrier.specs.declared.first_layout.Refusal1.{Refusal1}

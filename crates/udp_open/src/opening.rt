@@ -74,6 +74,9 @@ impl Opening {
             StandsOpen self.new (t ▷ In now datagram.now result) }
         ensures answer { (t : Trace Entry) → Follows self.old t →
             result ≡ opening_answered self.old.settings t datagram.now }
+        // LinkClosed is the answer exactly where the link is closed.
+        ensures closed { (t : Trace Entry) → Follows self.old t →
+            has_effect result ≡ not (is_closed self.old.settings t) }
         // A link of this opening may answer otherwise.
         ensures follows { (t : Trace Entry) (took : Took) → Follows self.old t →
             has_effect took ≡ not (is_closed self.old.settings t) →
