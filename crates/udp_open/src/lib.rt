@@ -10,11 +10,13 @@
 
 mod agreement;
 mod hearing;
+mod laws;
 mod opening;
 mod sending;
 mod settings;
 mod timer;
 
+pub use laws::{both_agree, openings_are_due};
 pub use opening::{OpenEnd, Opening};
 pub use settings::{OpenSettings, hash_cookie};
 

@@ -70,13 +70,7 @@ fn opening_of(settings: &OpenSettings, answer: bool, version: Option<u16>) -> Sy
 }
 
 /// Writes a SYN or a SYN+ACK of this end that names a version, or none. It fills the datagram.
-fn send(
-    settings: &OpenSettings,
-    answer: bool,
-    ack: u32,
-    version: Option<u16>,
-    out: &mut [u8; 1232],
-)
+fn send(settings: &OpenSettings, answer: bool, ack: u32, version: Option<u16>, out: &mut [u8; 1232])
     requires { IfSome version IsOffered }
     ensures { out.new ≡ spelled (opening settings.now answer ack version) }
 {
@@ -108,6 +102,10 @@ pub fn send_syn_ack(settings: &OpenSettings, agreement: Agreement, out: &mut [u8
     requires { IsOffered agreement.version }
     ensures { out.new ≡ spelled (syn_ack settings.now agreement) }
 {
-    let version = if agreement.extended { Some(agreement.version) } else { None };
+    let version = if agreement.extended {
+        Some(agreement.version)
+    } else {
+        None
+    };
     send(settings, true, agreement.peer_initial, version, out);
 }
