@@ -269,8 +269,10 @@ client_hears settings e w now d took i was = record {
   where
     c : OpenSettings
     c = settings Client
+
     before : Option Agreement
     before = agreed c (half Client w)
+
     by_test : (b : Bool) → is_opening d ≡ b → is_some (if has_effect took then agreed_by before (hears c before (shown d)) else before) ≡ true
         → is_some (agreed (settings Server) (half Server w)) ≡ true
     by_test true o h = (i.from_server (was o).0 d (was o).1 o).1

@@ -99,16 +99,27 @@ fn a_cookie_is_known_by_its_hash(rt: HostRuntime) {
         0x37, 0xbb,
     ];
     assert_eq!(rt; hash_cookie(&[0; 16]), hash);
-    let mut syn = filled(&SYN);
-    syn[18] = 1;
-    syn[19] = 1;
+    let syn = [
+        0xff, 0xff, 0xff, 0xff, 0x00, 0x40, 0x10, 0x01, 0, 0, 0, 1, 0x04, 0xd0, 0x04, 0xd0, 0, 1,
+        1, 1, 0x37, 0x47, 0x08, 0xff, 0xf7, 0x71, 0x9d, 0xd5, 0x97, 0x9e, 0xc8, 0x75, 0xd5, 0x6c,
+        0xd2, 0x28, 0x6f, 0x6d, 0x3c, 0xf7, 0xec, 0x31, 0x7a, 0x3b, 0x25, 0x63, 0x2a, 0xab, 0x28,
+        0xec, 0x37, 0xbb,
+    ];
+    let mut other = filled(&syn);
+    other[51] = 0xba;
     let mut server = opening(Role::Server, Kind::Reliable, 2, 9);
-    assert_eq!(rt; server.input(0, &syn), Took::Ignored(Reason::UnknownCookie));
-    for (place, byte) in syn[20..52].iter_mut().zip(&hash) {
-        *place = *byte;
-    }
-    assert_eq!(rt; server.input(0, &syn), Took::Used);
+    assert_eq!(rt;
+        server.input(0, &other),
+        Took::Ignored(Reason::UnknownCookie)
+    );
+    assert_eq!(rt; server.input(0, &filled(&syn)), Took::Used);
     assert!(rt; sends(&mut server, 0, &SYN_ACK));
+}
+
+#[test]
+fn laws_hold() {
+    both_agree();
+    openings_are_due();
 }
 
 #[test]
