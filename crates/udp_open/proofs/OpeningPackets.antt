@@ -1,13 +1,13 @@
 -- The SYNs and SYN+ACKs that an end sends are packets of the layout, and are read as they were meant.
-use Rattle.std.proofs.Common.{◌≡◌, inl, inr, ℕ, ◌+◌, ◌<◌, ◌≤◌, ◌^◌, ◌==◌, Bool, true, false, min, List, [], ◌∷◌, length, if◌then◌else◌, Option, Some, None, is_some, Result, Ok, Err, refl, sym, ap, ◌∙◌, subst, rules, arith}
-use Rattle.std.specs.Option.{option_map, IfSome}
+use Rattle.std.proofs.Common.{◌≡◌, inl, inr, ℕ, ◌<◌, ◌^◌, Bool, true, false, length, Option, Some, None, Ok, refl, sym, subst, rules, arith}
+use Rattle.std.specs.Option.{IfSome}
 use Rattle.std.specs.Int.RustNames.{bit_and}
 use Rattle.mt_base.specs.declared.kinds.Kind.{Kind}
 use Rattle.mt_base.specs.declared.kinds.Kind.TheVariants.{Reliable, Lossy}
 use Rattle.udp1_packets.specs.Layout.{IsPacket, IsSyn, IsExtended, spelled}
 use Rattle.udp1_packets.proofs.Theorems.{written_spells}
 use Rattle.udp_open.specs.declared.settings.OpenSettings.{OpenSettings}
-use Rattle.udp_open.specs.Handshake.{shown, version_in, names, opening, opening_syn, filling, marks_of}
+use Rattle.udp_open.specs.Handshake.{shown, names, opening, opening_syn, marks_of}
 use Rattle.udp_open.specs.OpeningView.{IsOffered}
 use Rattle.udp_open.proofs.Openings.{spelled_shows}
 

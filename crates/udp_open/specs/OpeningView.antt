@@ -2,7 +2,9 @@
 use Rattle.std.specs.Prelude.{◌≡◌, ◌⊎◌, ℕ, ◌<◌, ◌≤◌, ◌^◌, nat_le, max, List, if◌then◌else◌, Option, Some, None, IfSome}
 use Rattle.mt_base.specs.declared.kinds.Role.TheVariants.{Client}
 use Rattle.mt_base.specs.Trace.{Trace}
-use Rattle.carrier.specs.Entries.{Entry, moment}
+use Rattle.carrier.specs.declared.state.Took.TheVariants.{Ignored}
+use Rattle.carrier.specs.declared.state.Reason.TheVariants.{LinkClosed}
+use Rattle.carrier.specs.Entries.{Entry, In, Polled, moment}
 use Rattle.udp_open.specs.declared.settings.OpenSettings.{OpenSettings}
 use Rattle.udp_open.specs.declared.agreement.Agreement.{Agreement}
 use Rattle.udp_open.specs.declared.timer.Timer.{Timer}
@@ -53,6 +55,12 @@ pub record StandsOpen (o : Handshake) (t : Trace Entry) : Type 0 where
 abbrev pub SendsFirst : Option (List ℕ) → Option (List ℕ) → Type 0
 SendsFirst None out = Unit {0}
 SendsFirst (Some bytes) out = out ≡ Some bytes
+
+-- what a closed link does
+abbrev pub IsSilent : Entry → Type 0
+IsSilent (In now datagram took) = took ≡ Ignored LinkClosed
+IsSilent (Polled now out) = out ≡ None
+IsSilent e = ⊥
 
 -- how an opening ends
 abbrev pub end_of : Option Agreement → OpenEnd

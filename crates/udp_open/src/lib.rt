@@ -16,7 +16,7 @@ mod sending;
 mod settings;
 mod timer;
 
-pub use laws::{both_agree, openings_are_due};
+pub use laws::{agreements_stay, both_agree, closed_for_good, openings_are_due};
 pub use opening::{OpenEnd, Opening};
 pub use settings::{OpenSettings, hash_cookie};
 

@@ -120,6 +120,8 @@ fn a_cookie_is_known_by_its_hash(rt: HostRuntime) {
 fn laws_hold() {
     both_agree();
     openings_are_due();
+    agreements_stay();
+    closed_for_good();
 }
 
 #[test]
