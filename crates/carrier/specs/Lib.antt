@@ -7,3 +7,8 @@ pub mod Law
 pub mod States
 pub mod LayoutLaw
 pub mod Joined
+pub mod TwoLinks
+pub mod SmallWorld
+pub mod Perfect
+pub mod PerfectThin
+pub mod PerfectView

@@ -3,5 +3,3 @@ pub mod Reading
 pub mod Views
 pub mod Layout
 pub mod Faults
-pub mod Space
-pub mod RoomView

@@ -9,8 +9,8 @@ ghost use Rattle.dvc_pdus.specs.Views.{pdu_of};
 
 use crate::command::{CAPABILITIES, CREATE, DATA};
 use crate::pdu::DvcPdu;
-use crate::room::Room;
-use mt_base::{NoRoom, Out};
+use crate::room::pass_pdu;
+use mt_base::{NoRoom, Out, Room};
 
 /// The code of the smallest size that an id fits.
 fn size_code(id: u32) -> u8
@@ -101,7 +101,7 @@ fn find_room(pdu: &DvcPdu<'_>, out: &[u8]) -> Result<(), NoRoom>
     ensures found { OnOk result (length (joined (fields (pdu_of pdu.now))) ≤ length out.now) }
     ensures refused { IfErr result (λ e. puts (fields (pdu_of pdu.now)) (record { before = []; after = out.now }) ≡ Err e) }
 {
-    Room::new(out.len()).pass_pdu(pdu)
+    pass_pdu(&mut Room::new(out.len()), pdu)
 }
 
 /// Writes a PDU at the front of `out`, and gives the number of its bytes (MS-RDPEDYC section 2.2).

@@ -17,7 +17,7 @@ use Rattle.carrier.specs.Law.{Faithful, answered, IsBytes}
 use Rattle.udp1_core.specs.FirstLayout.{bounds, first_layout}
 use Rattle.udp1_core.specs.ReceiverView.{Receiver, Hears}
 use Rattle.udp1_core.specs.SenderView.{Sender, Speaks, timer_at}
-use Rattle.udp1_core.specs.MachineView.{Machine, StandsIn, layout_of}
+use Rattle.udp1_core.specs.MachineView.{Machine, Stands, StandsIn, layout_of}
 
 -- what holds where a call went well, holds where it went well
 pub where_ok : {T E P : Type 0} (r : Result T E) (x : T) → r ≡ Ok x → OnOk r P → P
@@ -27,6 +27,10 @@ where_ok {T} {E} {P} r x is h = subst (λ r. OnOk r P) is h
 
 pub at_layout : (a b : Layout) (m : Machine) (t : Trace Entry) → a ≡ b → StandsIn a m t → StandsIn b m t
 at_layout a b m t same h = subst (λ l. StandsIn l m t) same h
+
+-- the moment may be spelled otherwise
+pub at_moment : (m : Machine) (a b : ℕ) (t : Trace Entry) → a ≡ b → Stands (record m { moment = a }) t → Stands (record m { moment = b }) t
+at_moment m a b t same h = subst (λ k. Stands (record m { moment = k }) t) same h
 
 pub same_receiver : (m : Machine) (r : Receiver) → r.delay ≡ m.receiver.delay → r.peer ≡ m.receiver.peer → layout_of m ≡ layout_of (record m { receiver = r })
 same_receiver m r delay peer = ap₂ (λ d p. first_layout m.sender.wait d m.sender.own p) (sym delay) (sym peer)

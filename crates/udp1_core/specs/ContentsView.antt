@@ -1,5 +1,5 @@
 -- What a packet of an open link shows, in the words of links.
-use Rattle.std.specs.Prelude.{◌≡◌, ℕ, ◌≤◌, List, All, Option, Some, None, option_copied}
+use Rattle.std.specs.Prelude.{◌≡◌, ℕ, ◌≤◌, List, length, All, Option, Some, None, option_copied}
 use Rattle.ack_vector.specs.Elements.{IsGood}
 use Rattle.udp1_packets.specs.Value.{Body, Packet, SynBody, DataBody, FecBody, BareBody}
 use Rattle.carrier.specs.Layout.{Shown}
@@ -26,3 +26,10 @@ pub record IsFit (c : Contents) : Type 0 where
 abbrev pub PacketShows : Packet → Option Contents → Type 0
 PacketShows p None = shown_by p.ack p.window p.body ≡ Refuses NotOurs
 PacketShows p (Some c) = (coded : ℕ) × (s : Shown) × (shown_by p.ack p.window p.body ≡ ReadsAs s) × Shows coded c s
+
+-- the part that such a body carries is no longer than a datagram
+abbrev pub BodyFits : Body → Type 0
+BodyFits (SynBody syn) = Unit {0}
+BodyFits (DataBody vector aoa coded start bytes) = length bytes ≤ 1232
+BodyFits (FecBody vector aoa coded start range index bytes) = Unit {0}
+BodyFits (BareBody vector aoa rest) = Unit {0}

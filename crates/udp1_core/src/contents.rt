@@ -1,9 +1,9 @@
 //! What a packet of an open link shows.
 
-ghost use Rattle.std.specs.Prelude.{◌≡◌, All};
+ghost use Rattle.std.specs.Prelude.{IfSome};
 ghost use Rattle.udp1_packets.specs.Layout.{IsPacket};
 ghost use Rattle.udp1_packets.specs.Views.{packet_of};
-ghost use Rattle.udp1_core.specs.ContentsView.{PacketShows, IsFit};
+ghost use Rattle.udp1_core.specs.ContentsView.{PacketShows, IsFit, BodyFits};
 
 use crate::receiver::Load;
 use udp1_packets::{Body1, Packet1};
@@ -21,7 +21,8 @@ pub struct Contents<'a> {
 
 /// What the packet shows; `None` where it opens a link.
 pub fn contents_of<'a>(packet: &Packet1<'a>) -> Option<Contents<'a>>
-    ensures { PacketShows (packet_of packet.now) result }
+    ensures shows { PacketShows (packet_of packet.now) result }
+    ensures fit { IsPacket (packet_of packet.now) → BodyFits (packet_of packet.now).body → IfSome result IsFit }
 {
     let (window, named) = (packet.window, packet.ack);
     match packet.body {

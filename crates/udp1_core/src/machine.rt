@@ -129,6 +129,7 @@ impl Udp1Core {
         ensures layout { layout_of self.new ≡ layout_of self.old }
         ensures left { (more : List ℕ) × (left_of self.new.receiver.inbox ≡ left_of self.old.receiver.inbox ++ more) }
         ensures queued { queued_of self.new.sender.outbox ≤ queued_of self.old.sender.outbox }
+        ensures few { self.old.sender.timer.expiries ≤ 16 → self.new.sender.timer.expiries ≤ 16 }
     {
         self.sender.hear(
             contents.window,

@@ -4,8 +4,8 @@ use Rattle.carrier.specs.Layout.{Carries, Correction, Empty}
 use Rattle.udp1_core.specs.FirstLayout.{shown_by, telling_in}
 use Rattle.udp1_core.proofs.contents.contents_of.Goals as goal
 
-pub returns-in-Data : goal.returns-in-Data
-returns-in-Data c =
+pub returns-in-Data-clause-shows : goal.returns-in-Data-clause-shows
+returns-in-Data-clause-shows c =
     let p = c.args.packet.now in
     let d = c.in-Data in
     (d.coded,
@@ -15,8 +15,8 @@ returns-in-Data c =
     ap (λ b. shown_by p.ack p.window (body_of b)) d.is,
     record { window_is = refl; telling_is = refl; floor_is = refl; load_is = refl })
 
-pub returns-in-Fec : goal.returns-in-Fec
-returns-in-Fec c =
+pub returns-in-Fec-clause-shows : goal.returns-in-Fec-clause-shows
+returns-in-Fec-clause-shows c =
     let p = c.args.packet.now in
     let d = c.in-Fec in
     (d.coded,
@@ -26,8 +26,8 @@ returns-in-Fec c =
     ap (λ b. shown_by p.ack p.window (body_of b)) d.is,
     record { window_is = refl; telling_is = refl; floor_is = refl; load_is = refl })
 
-pub returns-in-Bare : goal.returns-in-Bare
-returns-in-Bare c =
+pub returns-in-Bare-clause-shows : goal.returns-in-Bare-clause-shows
+returns-in-Bare-clause-shows c =
     let p = c.args.packet.now in
     let d = c.in-Bare in
     (0,

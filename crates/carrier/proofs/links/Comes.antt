@@ -1,0 +1,138 @@
+-- What a datagram that comes does to both directions.
+use Rattle.std.proofs.Common.{◌≡◌, ℕ, ◌+◌, ◌-◌, ◌<◌, ◌≤◌, ◌⊎◌, inl, inr, Bool, true, false, ltb, cond, List, length, Option, Some, None, is_some, refl, sym, ap, ◌∙◌, subst, arith}
+use Rattle.std.proofs.lemmas.Bool.{cases_lt}
+use Rattle.std.proofs.lemmas.Bool.Decides.{nat_tests}
+use Rattle.mt_base.specs.Trace.{Trace, ◌▷◌}
+use Rattle.mt_windows.specs.Arrived.{part_at}
+use Rattle.mt_windows.specs.Sending.{given as given_to, cuts, transmissions, lowest_or_next}
+use Rattle.carrier.specs.declared.state.Took.{Took}
+use Rattle.carrier.specs.declared.state.Reason.TheVariants as reason
+use Rattle.carrier.specs.Entries.{Entry, In, pulled}
+use Rattle.carrier.specs.Layout.{Layout, Bounds, Carried, Datagram, Refuses, Shows, Shown, Telling, named_in, with_named, read_near, tells}
+use Rattle.carrier.specs.Receiving.{reading, shown_in, effect, has_effect, received, accepted, receives, parts_with, arrival, Arrival}
+use Rattle.carrier.specs.Sending.{acts, hears, hears_named, hears_telling, tell_all, tell_parts, tell_transmissions, told_reference}
+use Rattle.carrier.specs.LayoutLaw.{IsLayout, shown_of, load_shown, telling_shown, low_part}
+use Rattle.carrier.proofs.links.Invariant.{Even, Follows, FliesLoad, Told, Hears, Accepts}
+use Rattle.carrier.proofs.links.Steps.{way_hears, even_hears, takes, way_takes}
+use Rattle.carrier.proofs.links.Facing.{Facing, same_window}
+use Rattle.carrier.proofs.links.Hears.{hears_nothing, hears_parts, tell_given, named_with, with_again, with_own}
+use Rattle.carrier.proofs.links.Reading.{named_is, arrives}
+use Rattle.carrier.proofs.links.Ends.{Spelled, Both}
+
+-- what comes has no effect, or shows what this datagram means, which is under way
+pub data Comes (late : ℕ) (m : Layout) (R : ℕ → Datagram → Type 0) (o : Option Shown) : Type 0 where
+  Quiet : o ≡ None → Comes late m R o
+  Heard : (k : ℕ) (f : Datagram) → k < late → R k f → o ≡ Some (shown_of m f) → Comes late m R o
+
+-- a telling that is heard
+pub hears_telling_is : (late : ℕ) (l m : Layout) (t u : Trace Entry) (k : ℕ) (telling : Telling) (tells_it : Bool) → Facing late l m → Even l.bounds.windows l.own (acts l t) → Follows l.bounds.windows (acts l t) (accepted m u) (length (pulled u))
+    → k < late → Told l.bounds.windows l.own k (acts l t) (accepted m u) telling
+    → Hears l.bounds.windows (acts l t) (hears_telling l (acts l t) (telling_shown m tells_it telling)) (accepted m u)
+    × (given_to (hears_telling l (acts l t) (telling_shown m tells_it telling)) ≡ given_to (acts l t))
+hears_telling_is late l m t u k telling false f even now soon h = (hears_nothing l.bounds.windows (acts l t) (accepted m u), refl)
+hears_telling_is late l m t u k telling true f even now soon h =
+    let a = acts l t in
+    let shown = with_named (low_part m (named_in telling)) telling in
+    let number : read_near l (told_reference l a) (named_in shown) ≡ Some (named_in telling) =
+    ap (read_near l (told_reference l a)) (named_with (low_part m (named_in telling)) telling)
+    ∙ named_is late l m f a (received m u) (length (pulled u)) k even now soon telling h in
+    let meant_is : with_named (named_in telling) shown ≡ telling = with_again (named_in telling) (low_part m (named_in telling)) telling ∙ with_own telling in
+    let all : tell_all l a (tells telling) ≡ tell_parts (λ p. tells telling (l.own + p)) (lowest_or_next l.bounds.windows a) (cuts a - lowest_or_next l.bounds.windows a) a =
+    ap (λ b. cond b (tell_parts (λ p. tells telling (l.own + p)) (lowest_or_next l.bounds.windows a) (cuts a - lowest_or_next l.bounds.windows a) a)
+    (tell_transmissions (λ j. tells telling (l.own + j)) (transmissions a - l.bounds.windows.span) (transmissions a - (transmissions a - l.bounds.windows.span)) a)) f.here_tells in
+    let same = ap (hears_named l a shown) number ∙ ap (λ x. tell_all l a (tells x)) meant_is ∙ all in (
+      subst (λ b. Hears l.bounds.windows a b (accepted m u)) (sym same)
+          (hears_parts l.bounds.windows (λ p. tells telling (l.own + p)) (lowest_or_next l.bounds.windows a) (cuts a - lowest_or_next l.bounds.windows a) a (accepted m u)
+          (λ p is. there p (h.got (l.own + p) (omega arith) is))),
+      ap given_to same ∙ tell_given (λ p. tells telling (l.own + p)) (lowest_or_next l.bounds.windows a) (cuts a - lowest_or_next l.bounds.windows a) a,
+    )
+  where
+    there : (p : ℕ) → is_some (part_at (accepted m u) (l.own + p - l.own)) ≡ true → is_some (part_at (accepted m u) p) ≡ true
+    there p is = let e : l.own + p - l.own ≡ p = omega arith in subst (λ q. is_some (part_at (accepted m u) q) ≡ true) e is
+
+-- a part that is taken, or none, at the end with the layout l
+pub takes_load : (late : ℕ) (l m : Layout) (t u : Trace Entry) (k : ℕ) (load : Option Carried) → Facing late m l → Even m.bounds.windows m.own (acts m u) → Follows m.bounds.windows (acts m u) (accepted l t) (length (pulled t))
+    → k < late → FliesLoad m.bounds.windows m.own k (acts m u) load
+    → Follows m.bounds.windows (acts m u) (parts_with l (received l t) (length (pulled t)) (arrival l (received l t) (length (pulled t)) (load_shown m load))) (length (pulled t))
+    × Accepts (accepted l t) (parts_with l (received l t) (length (pulled t)) (arrival l (received l t) (length (pulled t)) (load_shown m load)))
+takes_load late l m t u k None g even now soon h = (now, record { stay = λ p is. is; far = omega arith })
+takes_load late l m t u k (Some c) g even now soon h =
+    let r = received l t in
+    let n = length (pulled t) in
+    let a : Arrival = record { part = c.part; transmission = l.peer; bytes = c.bytes } in
+    let is = arrives late m l g (acts m u) r n k even now soon c h in
+    let first = g.first in
+    let number : c.part ≡ l.peer + h.place = omega (arith, h.number, first) in
+    subst (λ o. Follows m.bounds.windows (acts m u) (parts_with l r n o) n × Accepts r.parts (parts_with l r n o)) (sym is)
+    (takes m.bounds.windows l.bounds.windows.window l.peer (acts m u) r.parts n c.part h.place c.bytes now (same_window late m l g) number h.cut h.bytes)
+
+-- what a datagram that comes does to both directions
+pub record Effects (l m : Layout) (t u : Trace Entry) (o : Option Shown) : Type 0 where
+  pub heard : Hears l.bounds.windows (acts l t) (hears l (acts l t) o) (accepted m u)
+  pub gave : given_to (hears l (acts l t) o) ≡ given_to (acts l t)
+  pub takes_it : Follows m.bounds.windows (acts m u) (receives l (received l t) (length (pulled t)) o).parts (length (pulled t))
+  pub accepts : Accepts (accepted l t) (receives l (received l t) (length (pulled t)) o).parts
+
+pub effects : (late : ℕ) (l m : Layout) (t u : Trace Entry) (S R : ℕ → Datagram → Type 0) (T U : ℕ → List ℕ → Type 0) (o : Option Shown) → Facing late l m → Facing late m l → Both l m t u S R T U → Comes late m R o → Effects l m t u o
+effects late l m t u S R T U o f g h (Quiet e) = subst (Effects l m t u) (sym e) (record {
+  heard = hears_nothing l.bounds.windows (acts l t) (accepted m u);
+  gave = refl;
+  takes_it = h.back.now;
+  accepts = record { stay = λ p is. is; far = omega arith };
+})
+effects late l m t u S R T U o f g h (Heard k d soon sent e) =
+    let hearing = hears_telling_is late l m t u k d.telling d.tells f h.here h.out.now soon (h.out.tellings k d sent) in
+    let taking = takes_load late l m t u k d.load g h.there h.back.now soon (h.back.loads k d sent) in
+    subst (Effects l m t u) (sym e) (record { heard = hearing.0; gave = hearing.1; takes_it = taking.0; accepts = taking.1 })
+
+pub comes : (late : ℕ) (l m : Layout) (t u : Trace Entry) (now : ℕ) (datagram : List ℕ) (took : Took) (S R : ℕ → Datagram → Type 0) (T U : ℕ → List ℕ → Type 0) → Facing late l m → Facing late m l
+    → Comes late m R (effect l took datagram) → Both l m t u S R T U → Both l m (t ▷ In now datagram took) u S R T U
+comes late l m t u now datagram took S R T U f g c h =
+    let o = effect l took datagram in
+    let x = effects late l m t u S R T U o f g h c in
+    record {
+      out = way_hears l.bounds.windows l.own (acts l t) (hears l (acts l t) o) (accepted m u) (length (pulled u)) S R h.out x.heard;
+      back = way_takes m.bounds.windows m.own (acts m u) (accepted l t) (receives l (received l t) (length (pulled t)) o).parts (length (pulled t)) R S h.back x.takes_it x.accepts;
+      here = even_hears l.bounds.windows l.own (acts l t) (hears l (acts l t) o) (accepted m u) x.heard x.gave h.here;
+      there = h.there;
+      given_here = x.gave ∙ h.given_here;
+      given_there = h.given_there;
+      means_here = h.means_here;
+      means_there = h.means_there;
+    }
+
+-- ---- how a datagram that comes is read
+
+pub reading_is : (late : ℕ) (l m : Layout) (f : Datagram) (datagram : List ℕ) → Facing late m l → Spelled m f datagram → reading l datagram ≡ Shows (shown_of m f)
+reading_is late l m f datagram g s =
+    let fits : length datagram ≤ l.bounds.datagram = subst (λ (b : Bounds). length datagram ≤ b.datagram) (sym g.bounds) s.fits in
+    let short : ltb l.bounds.datagram (length datagram) ≡ false = grind (arith, nat_tests) in
+    ap (λ b. cond b (Refuses reason.TooLong) (l.read datagram)) short ∙ g.reads datagram ∙ s.shows
+
+-- a datagram of fewer than eight bytes shows nothing
+pub tiny_effect : (l : Layout) (took : Took) (datagram : List ℕ) → IsLayout l → length datagram < 8 → effect l took datagram ≡ None
+tiny_effect l took datagram is less = of_took (has_effect took)
+  where
+    of_length : (b : Bool) → shown_in (cond b (Refuses reason.TooLong) (l.read datagram)) ≡ None
+    of_length true = refl
+    of_length false = is.tiny datagram less
+
+    of_took : (b : Bool) → cond b (shown_in (reading l datagram)) None ≡ None
+    of_took true = of_length (ltb l.bounds.datagram (length datagram))
+    of_took false = refl
+
+-- a datagram that came in time has the effect of what it means, or none
+pub came : (late : ℕ) (l m : Layout) (took : Took) (datagram : List ℕ) (R : ℕ → Datagram → Type 0) (U : ℕ → List ℕ → Type 0) → Facing late m l → ((k : ℕ) (d : List ℕ) → U k d → (f : Datagram) × R k f × Spelled m f d)
+    → (8 ≤ length datagram → (k : ℕ) × (k < late) × U k datagram) → Comes late m R (effect l took datagram)
+came late l m took datagram R U g means timely = by_length (cases_lt (length datagram) 8)
+  where
+    of_took : (k : ℕ) (f : Datagram) → k < late → R k f → reading l datagram ≡ Shows (shown_of m f) → (b : Bool) → Comes late m R (cond b (shown_in (reading l datagram)) None)
+    of_took k f soon sent is true = Heard k f soon sent (ap shown_in is)
+    of_took k f soon sent is false = Quiet refl
+
+    by_length : (length datagram < 8) ⊎ (8 ≤ length datagram) → Comes late m R (effect l took datagram)
+    by_length (inl less) = Quiet (tiny_effect l took datagram g.there less)
+    by_length (inr ge) =
+        let in_time = timely ge in
+        let f = means in_time.0 datagram in_time.2 in
+        of_took in_time.0 f.0 in_time.1 f.1 (reading_is late l m f.0 datagram g f.2) (has_effect took)

@@ -1,0 +1,175 @@
+-- A small world meets what is asked of two joined ends.
+use Rattle.std.proofs.Common.{◌≡◌, ℕ, zero, suc, ◌+◌, ◌-◌, ◌*◌, ◌%◌, ◌<◌, ◌≤◌, Bool, true, false, leb, cond, ◌==◌, slice_get, List, [], ◌∷◌, length, All, Option, Some, None, IfSome, unwrap_or, refl, ap, ◌∙◌, arith, lit<, lit≤}
+use Rattle.std.proofs.lemmas.Bool.Decides.{nat_tests}
+use Rattle.std.proofs.lemmas.List.Elements.{All-cons, All-nil}
+use Rattle.mt_base.specs.declared.kinds.Role.{Role}
+use Rattle.mt_base.specs.declared.kinds.Role.TheVariants.{Server, Client}
+use Rattle.mt_base.specs.Ends.{other}
+use Rattle.mt_base.specs.Nearness.{nearest}
+use Rattle.mt_windows.specs.Arrived.{passed, greatest_part, has_part}
+use Rattle.carrier.specs.Layout.{Received, Shows, Empty, Carries, Upto, Datagram, Carried, tells}
+use Rattle.carrier.specs.Receiving.{shown_in, accepted}
+use Rattle.carrier.specs.Law.{Faithful}
+use Rattle.carrier.specs.LayoutLaw.{IsLayout, IsCarried, shown_of}
+use Rattle.carrier.specs.Joined.{half, Timely}
+use Rattle.carrier.specs.TwoLinks.{Margins, Net}
+use Rattle.carrier.specs.SmallWorld.{small, small_layouts, small_world, shows_small, spelled_small, bit}
+
+-- ---- the layout
+
+flags_back : (a b : Bool) → (bit a == 1) ∷ (bit b == 1) ∷ [] ≡ a ∷ b ∷ []
+flags_back true true = refl
+flags_back true false = refl
+flags_back false true = refl
+flags_back false false = refl
+
+small_back : (own peer : ℕ) (tells : Bool) (named : ℕ) (a b : Bool) (floor : Option ℕ) (load : Option Carried)
+    → (let d : Datagram = record { telling = Upto named (a ∷ b ∷ []); tells = tells; floor = floor; load = load } in
+    shows_small (spelled_small d) ≡ Shows (shown_of (small own peer) d))
+small_back own peer false named a b None None = refl
+small_back own peer false named a b None (Some c) = refl
+small_back own peer false named a b (Some x) None = refl
+small_back own peer false named a b (Some x) (Some c) = refl
+small_back own peer true named a b None None =
+    ap (λ fs. Shows (record { window = Some 2; telling = Some (Upto (named % 8) fs); floor = None; load = Empty })) (flags_back a b)
+small_back own peer true named a b None (Some c) =
+    ap (λ fs. Shows (record { window = Some 2; telling = Some (Upto (named % 8) fs); floor = None; load = Carries (c.part % 8) (c.transmission % 8) c.bytes })) (flags_back a b)
+small_back own peer true named a b (Some x) None =
+    ap (λ fs. Shows (record { window = Some 2; telling = Some (Upto (named % 8) fs); floor = Some (x % 8); load = Empty })) (flags_back a b)
+small_back own peer true named a b (Some x) (Some c) =
+    ap (λ fs. Shows (record { window = Some 2; telling = Some (Upto (named % 8) fs); floor = Some (x % 8); load = Carries (c.part % 8) (c.transmission % 8) c.bytes })) (flags_back a b)
+
+small_fits : (own peer : ℕ) (tells : Bool) (named : ℕ) (a b : Bool) (floor : Option ℕ) (load : Option Carried) → IfSome load (IsCarried (small own peer))
+    → length (spelled_small (record { telling = Upto named (a ∷ b ∷ []); tells = tells; floor = floor; load = load })) ≤ 10
+small_fits own peer tells named a b None None h = lit≤ tt
+small_fits own peer tells named a b None (Some c) h = omega (arith, h.0)
+small_fits own peer tells named a b (Some x) None h = lit≤ tt
+small_fits own peer tells named a b (Some x) (Some c) h = omega (arith, h.0)
+
+small_tiny : (xs : List ℕ) → length xs < 8 → shown_in (shows_small xs) ≡ None
+small_tiny [] less = refl
+small_tiny (a ∷ []) less = refl
+small_tiny (a ∷ b ∷ []) less = refl
+small_tiny (a ∷ b ∷ c ∷ []) less = refl
+small_tiny (a ∷ b ∷ c ∷ d ∷ []) less = refl
+small_tiny (a ∷ b ∷ c ∷ d ∷ e ∷ []) less = refl
+small_tiny (a ∷ b ∷ c ∷ d ∷ e ∷ f ∷ []) less = refl
+small_tiny (a ∷ b ∷ c ∷ d ∷ e ∷ f ∷ g ∷ []) less = refl
+small_tiny (a ∷ b ∷ c ∷ d ∷ e ∷ f ∷ g ∷ h ∷ more) less = absurd (omega (arith, less))
+
+-- what two flags tell
+small_tells : (has : ℕ → Bool) (named n : ℕ) → tells (Upto named (has (named - 1) ∷ has named ∷ [])) n ≡ true → has n ≡ true
+small_tells has named n h = by_place (leb n named) refl h
+  where
+    by_distance : (i : ℕ) → named - n ≡ i → n ≤ named → unwrap_or (slice_get (has named ∷ has (named - 1) ∷ []) i) false ≡ true → has n ≡ true
+    by_distance zero e le is = let same : n ≡ named = omega (arith, e, le) in ap has same ∙ is
+    by_distance (suc zero) e le is = let same : n ≡ named - 1 = omega (arith, e, le) in ap has same ∙ is
+    by_distance (suc (suc i)) e le is = absurd (cc)
+
+    by_place : (b : Bool) → leb n named ≡ b → unwrap_or (cond b (slice_get (has named ∷ has (named - 1) ∷ []) (named - n)) None) false ≡ true → has n ≡ true
+    by_place true e is = by_distance (named - n) refl (grind (arith, nat_tests)) is
+    by_place false e is = absurd (cc)
+
+small_layout : (own peer : ℕ) → 1 ≤ own → 1 ≤ peer → IsLayout (small own peer)
+small_layout own peer some_own some_peer = record {
+  half = 4;
+  some_half = lit< tt;
+  modulus_is = refl;
+  some_own = some_own;
+  some_peer = some_peer;
+  read_back = λ r above tells floor load h. small_back own peer tells (last r) (has_part peer r.parts (last r - 1)) (has_part peer r.parts (last r)) floor load;
+  fits = λ r above tells floor load h. small_fits own peer tells (last r) (has_part peer r.parts (last r - 1)) (has_part peer r.parts (last r)) floor load h;
+  tiny = small_tiny;
+  named = λ r above. refl;
+  received = λ r above n le is. small_tells (has_part peer r.parts) (last r) n is;
+}
+  where
+    last : Received → ℕ
+    last r = unwrap_or (greatest_part peer r.parts) (peer - 1)
+
+-- ---- the ends
+
+small_margins : Margins 2 small_layouts
+small_margins = record {
+  layout = layout;
+  tells_parts = tells_parts;
+  reads = reads;
+  faces = faces;
+  bounds = bounds;
+  room = 4;
+  modulus = modulus;
+  some_window = some_window;
+  two_windows = two_windows;
+  window_and_late = window_and_late;
+  numbers = numbers;
+}
+  where
+    layout : (s : Role) → IsLayout (small_layouts s)
+    layout Server = small_layout 7 3 (lit≤ tt) (lit≤ tt)
+    layout Client = small_layout 3 7 (lit≤ tt) (lit≤ tt)
+
+    tells_parts : (s : Role) → (small_layouts s).tells_parts ≡ true
+    tells_parts Server = refl
+    tells_parts Client = refl
+
+    reads : (s : Role) (d : List ℕ) → (small_layouts s).read d ≡ (small_layouts (other s)).read d
+    reads Server d = refl
+    reads Client d = refl
+
+    faces : (s : Role) → (small_layouts s).own ≡ (small_layouts (other s)).peer
+    faces Server = refl
+    faces Client = refl
+
+    bounds : (s : Role) → (small_layouts s).bounds ≡ (small_layouts (other s)).bounds
+    bounds Server = refl
+    bounds Client = refl
+
+    modulus : (s : Role) → (small_layouts s).modulus ≡ 2 * 4
+    modulus Server = refl
+    modulus Client = refl
+
+    some_window : (s : Role) → 0 < (small_layouts s).bounds.windows.window
+    some_window Server = lit< tt
+    some_window Client = lit< tt
+
+    two_windows : (s : Role) → 2 * (small_layouts s).bounds.windows.window ≤ 4
+    two_windows Server = lit≤ tt
+    two_windows Client = lit≤ tt
+
+    window_and_late : (s : Role) → (small_layouts s).bounds.windows.window + 2 ≤ 4
+    window_and_late Server = lit≤ tt
+    window_and_late Client = lit≤ tt
+
+    numbers : (s : Role) → (small_layouts s).own ≤ (small_layouts s).bounds.windows.numbers
+    numbers Server = lit≤ tt
+    numbers Client = lit≤ tt
+
+-- ---- the world
+
+three_bytes : All (λ b. b < 256) (10 ∷ 20 ∷ 30 ∷ [])
+three_bytes =
+    All-cons (λ b. b < 256) 10 (20 ∷ 30 ∷ []) (lit< tt)
+    (All-cons (λ b. b < 256) 20 (30 ∷ []) (lit< tt) (All-cons (λ b. b < 256) 30 [] (lit< tt) (All-nil (λ b. b < 256))))
+
+server_faithful : Faithful (small 7 3) (half Server small_world)
+unfolding nearest
+server_faithful = (refl, (refl, (refl, (refl, (refl, (lit≤ tt, three_bytes, tt))))))
+
+client_faithful : Faithful (small 3 7) (half Client small_world)
+unfolding nearest
+client_faithful = (refl, (refl, (refl, (refl, (refl, (refl, (refl, (refl, (refl, tt)))))))))
+
+small_timely : Timely 2 small_world
+small_timely =
+    (λ _. (0, lit< tt, (refl, refl)), (λ _. (0, lit< tt, (refl, refl)), (λ _. (0, lit< tt, (refl, refl)), (λ _. (0, lit< tt, (refl, refl)), (λ _. (1, lit< tt, (refl, refl)), (λ _. (0, lit< tt, (refl, refl)), tt))))))
+
+pub small_net : Net 2 small_layouts small_world
+small_net = record { margins = small_margins; faithful = faithful; timely = small_timely }
+  where
+    faithful : (s : Role) → Faithful (small_layouts s) (half s small_world)
+    faithful Server = server_faithful
+    faithful Client = client_faithful
+
+pub small_passes : passed (accepted (small_layouts Client) (half Client small_world)) ≡ 10 ∷ 20 ∷ 30 ∷ []
+unfolding nearest
+small_passes = refl

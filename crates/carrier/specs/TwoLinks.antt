@@ -1,0 +1,124 @@
+-- What holds of two joined ends whose layouts tell parts.
+use Rattle.std.specs.Prelude.{◌≡◌, ℕ, ◌+◌, ◌*◌, ◌<◌, ◌≤◌, true, List, ◌++◌, length, Option, Some, None, is_some}
+use Rattle.mt_base.specs.declared.kinds.Role.{Role}
+use Rattle.mt_base.specs.Ends.{other}
+use Rattle.mt_base.specs.Trace.{Trace, Start, ◌▷◌}
+use Rattle.mt_windows.specs.Arrived.{Parts, part_at, passed, drained}
+use Rattle.mt_windows.specs.Sending.{Act, Limits, cuts, lowest_or_next, piece, settled}
+use Rattle.carrier.specs.Entries.{Entry, In, given, pulled}
+use Rattle.carrier.specs.Layout.{Layout, Shows, Shown, Load, Empty, Telling, Datagram, Carried, named_in, with_named, read_near}
+use Rattle.carrier.specs.Receiving.{reading, received, accepted, arrival, floor_read, Arrival}
+use Rattle.carrier.specs.Sending.{acts, told_reference}
+use Rattle.carrier.specs.Law.{Faithful}
+use Rattle.carrier.specs.LayoutLaw.{IsLayout}
+use Rattle.carrier.specs.Joined.{Step, At, half, SentAgo, MeantAgo, Timely}
+
+-- ---- the premises
+
+-- Two layouts that belong together: both tell parts and read alike; each end's own numbers are the
+-- peer's at the other; and the windows, and the datagrams that may come late, leave room between two
+-- numbers that have the same low part.
+pub record Margins (late : ℕ) (layouts : Role → Layout) : Type 0 where
+  pub layout : (s : Role) → IsLayout (layouts s)
+  pub tells_parts : (s : Role) → (layouts s).tells_parts ≡ true
+  pub reads : (s : Role) (datagram : List ℕ)
+      → (layouts s).read datagram ≡ (layouts (other s)).read datagram
+  pub faces : (s : Role) → (layouts s).own ≡ (layouts (other s)).peer
+  pub bounds : (s : Role) → (layouts s).bounds ≡ (layouts (other s)).bounds
+  -- half of the modulus of both
+  pub room : ℕ
+  pub modulus : (s : Role) → (layouts s).modulus ≡ 2 * room
+  pub some_window : (s : Role) → 0 < (layouts s).bounds.windows.window
+  pub two_windows : (s : Role) → 2 * (layouts s).bounds.windows.window ≤ room
+  pub window_and_late : (s : Role) → (layouts s).bounds.windows.window + late ≤ room
+  pub numbers : (s : Role) → (layouts s).own ≤ (layouts s).bounds.windows.numbers
+
+-- two ends of a link, joined by a network
+pub record Net (late : ℕ) (layouts : Role → Layout) (w : Trace Step) : Type 0 where
+  pub margins : Margins late layouts
+  pub faithful : (s : Role) → Faithful (layouts s) (half s w)
+  pub timely : Timely late w
+
+-- ---- a datagram is read as it was meant
+
+-- what is carried arrives under the number that was meant
+abbrev pub LoadRead : Layout → Trace Entry → Load → Option Carried → Type 0
+LoadRead layout t load None = load ≡ Empty
+LoadRead layout t load (Some c) =
+    (a : Arrival) × (arrival layout (received layout t) (length (pulled t)) load ≡ Some a) × (a.part ≡ c.part)
+    × (a.bytes ≡ c.bytes)
+
+-- what is told, with the number that is read in place of the one that is named, is what was meant
+abbrev pub TellingRead : Layout → Trace Entry → Option Telling → Telling → Type 0
+TellingRead layout t None meant = Unit {0}
+TellingRead layout t (Some shown) meant =
+    (n : ℕ) × (read_near layout (told_reference layout (acts layout t)) (named_in shown) ≡ Some n)
+    × (with_named n shown ≡ meant)
+
+-- the floor is read as the number that was meant
+abbrev pub FloorRead : Layout → Trace Entry → Option ℕ → Option ℕ → Type 0
+FloorRead layout t shown None = shown ≡ None
+FloorRead layout t shown (Some floor) =
+    (low : ℕ) × (shown ≡ Some low) × (floor_read layout (received layout t) (length (pulled t)) low ≡ Some floor)
+
+-- This datagram, which comes after this trace, is read as it was meant.
+pub record Reads (layout : Layout) (t : Trace Entry) (datagram : List ℕ) (meant : Datagram) : Type 0 where
+  pub shown : Shown
+  pub shows : reading layout datagram ≡ Shows shown
+  pub window : shown.window ≡ Some layout.bounds.windows.window
+  pub load : LoadRead layout t shown.load meant.load
+  pub tells : is_some shown.telling ≡ meant.tells
+  pub telling : TellingRead layout t shown.telling meant.telling
+  pub floor : FloorRead layout t shown.floor meant.floor
+
+-- Each datagram that came in time was read as it was meant.
+abbrev pub AllRead : ℕ → (Role → Layout) → Trace Step → Type 0
+AllRead late layouts Start = Unit {0}
+AllRead late layouts (w ▷ At side (In now datagram took)) =
+    ((k : ℕ) → k < late → SentAgo (other side) w k datagram
+    → (f : Datagram) × MeantAgo layouts (other side) w k f × Reads (layouts side) (half side w) datagram f)
+    × AllRead late layouts w
+AllRead late layouts (w ▷ e) = AllRead late layouts w
+
+-- ---- what arrives
+
+-- what this end gave, sent and was told
+abbrev pub acts_of : (Role → Layout) → Trace Step → Role → Trace Act
+acts_of layouts w s = acts (layouts s) (half s w)
+
+-- what the other end accepted of it
+abbrev pub arrived_from : (Role → Layout) → Trace Step → Role → Parts
+arrived_from layouts w s = accepted (layouts (other s)) (half (other s) w)
+
+-- what the other end pulled
+abbrev pub pulled_from : Trace Step → Role → List ℕ
+pulled_from w s = pulled (half (other s) w)
+
+abbrev pub windows_of : (Role → Layout) → Role → Limits
+windows_of layouts s = (layouts s).bounds.windows
+
+-- each part that is settled at one end was accepted at the other, with the same bytes
+abbrev pub SettledArrive : (Role → Layout) → Trace Step → Role → Type 0
+SettledArrive layouts w s =
+    (p : ℕ) → settled (windows_of layouts s) (acts_of layouts w s) p ≡ true
+    → part_at (arrived_from layouts w s) p ≡ Some (piece (windows_of layouts s) (acts_of layouts w s) p)
+
+-- what one end passed is the beginning of what the other was given
+abbrev pub PassedWasGiven : (Role → Layout) → Trace Step → Role → Type 0
+PassedWasGiven layouts w s = (more : List ℕ) × (given (half s w) ≡ passed (arrived_from layouts w s) ++ more)
+
+-- so is what it pulled
+abbrev pub PulledWasGiven : (Role → Layout) → Trace Step → Role → Type 0
+PulledWasGiven layouts w s = (more : List ℕ) × (given (half s w) ≡ pulled_from w s ++ more)
+
+-- no part below the lowest unsettled one is missing at the other end
+abbrev pub LowestArrived : (Role → Layout) → Trace Step → Role → Type 0
+LowestArrived layouts w s =
+    (p : ℕ) → p < lowest_or_next (windows_of layouts s) (acts_of layouts w s)
+    → is_some (part_at (arrived_from layouts w s) p) ≡ true
+
+-- the parts that were cut end at most two windows above those that the other end drained
+abbrev pub CutsNear : (Role → Layout) → Trace Step → Role → Type 0
+CutsNear layouts w s =
+    cuts (acts_of layouts w s)
+    ≤ drained (arrived_from layouts w s) (length (pulled_from w s)) + 2 * (windows_of layouts s).window
