@@ -99,11 +99,11 @@ module _ (l : Layout) (t : Trace Entry) where
       let over = is_some (passed_over w a) && may_send l a in
       let cut = may_cut w l.own a (peer_window l t) in
       by_tests (again l t (lowest_or_next w a)) (again l t (unwrap_or (passed_over w a) 0)) (fresh l t) (telling_with l t None None true)
-          (is_closed l t) (is_waiting l a) (leb (expiry l tm) now) (may_send l a) last over cut (is_pressing l (owed l t) now)
+      (is_closed l t) (is_waiting l a) (leb (expiry l tm) now) (may_send l a) last over cut (is_pressing l (owed l t) now)
       ∙ ap (λ b. not (is_closed l t) && b)
-          (ap₂ (λ x y. x || (ready || y)) (expiry_on (is_waiting l a) (may_send l a || last) (expiry l tm) now) (pressing_on l (owed l t) now)
-          ∙ or_first (from_on (next_expiry l a tm) now) ready (from_on (pressing_from l.delay (owed l t)) now)
-          ∙ ap (λ b. ready || b) (earlier_on (next_expiry l a tm) (pressing_from l.delay (owed l t)) now))
+      (ap₂ (λ x y. x || (ready || y)) (expiry_on (is_waiting l a) (may_send l a || last) (expiry l tm) now) (pressing_on l (owed l t) now)
+      ∙ or_first (from_on (next_expiry l a tm) now) ready (from_on (pressing_from l.delay (owed l t)) now)
+      ∙ ap (λ b. ready || b) (earlier_on (next_expiry l a tm) (pressing_from l.delay (owed l t)) now))
 
   -- nothing is ever due
   pub never_due : ready ≡ false → from ≡ None → IsNextDue l t None
@@ -124,7 +124,8 @@ module _ (l : Layout) (t : Trace Entry) where
       let test : (at : ℕ) → is_due l t at ≡ leb d (max (moment t) at) =
       λ at. due_is at ∙ ap₂ (λ c r. not c && (r || from_on from (max (moment t) at))) going idle ∙ ap (λ f. from_on f (max (moment t) at)) is in
       (omega arith, test (max d (moment t)) ∙ has_come d (moment t), λ at above below. test at ∙ comes_later d (moment t) at above below) where
-    has_come : (d k : ℕ) → leb d (max k (max d k)) ≡ true
-    has_come d k = grind (arith, nat_tests)
-    comes_later : (d k at : ℕ) → k ≤ at → at < max d k → leb d (max k at) ≡ false
-    comes_later d k at above below = grind (arith, nat_tests)
+        has_come : (d k : ℕ) → leb d (max k (max d k)) ≡ true
+        has_come d k = grind (arith, nat_tests)
+
+        comes_later : (d k at : ℕ) → k ≤ at → at < max d k → leb d (max k at) ≡ false
+        comes_later d k at above below = grind (arith, nat_tests)

@@ -15,7 +15,7 @@ returns-then-is_ready c t h =
     ap (is_over l) (sym now.sends.timer_is) ∙ sym (c.is_closed.ensures.over i.receiver.delay i.receiver.peer) ∙ c.if-is_closed.false in
     let is : ready l t ≡ true = sym (c.is_ready.ensures i.receiver.delay i.receiver.peer _ _ _ now.sends) ∙ c.if-is_ready.true in
     subst (λ m. IsNextDue (layout_of m) t (Some i.moment)) c.self.view_is
-        (subst (λ k. IsNextDue l t (Some k)) (sym now.moment_is) (due_now l t going is))
+    (subst (λ k. IsNextDue l t (Some k)) (sym now.moment_is) (due_now l t going is))
 
 pub returns-in-Some : goal.returns-in-Some
 returns-in-Some c t h =
@@ -30,7 +30,7 @@ returns-in-Some c t h =
     sym (ap₂ earlier (c.next_expiry.ensures i.receiver.delay i.receiver.peer _ _ _ now.sends) (c.press_at.ensures _ _ _ _ now.hears))
     ∙ sym c.earlier.ensures ∙ c.in-Some.is in
     subst (λ m. IsNextDue (layout_of m) t (Some c.max.result)) c.self.view_is
-        (subst (λ k. IsNextDue l t (Some k)) (sym (c.max.ensures ∙ ap (max c.in-Some.due) now.moment_is)) (due_later l t c.in-Some.due going is first))
+    (subst (λ k. IsNextDue l t (Some k)) (sym (c.max.ensures ∙ ap (max c.in-Some.due) now.moment_is)) (due_later l t c.in-Some.due going is first))
 
 pub returns-in-None : goal.returns-in-None
 returns-in-None c t h =
