@@ -1,10 +1,10 @@
 -- When a poll sends a datagram or closes the link.
-use Rattle.std.proofs.Common.{◌≡◌, ℕ, zero, suc, ◌+◌, ◌<◌, ◌≤◌, Bool, true, false, not, ◌&&◌, ◌||◌, ltb, leb, cond, min, max, List, [], ◌∷◌, length, Option, Some, None, is_some, unwrap_or, refl, sym, ap, ap₂, ◌∙◌, subst, arith}
+use Rattle.std.proofs.Common.{◌≡◌, ℕ, ◌<◌, ◌≤◌, Bool, true, false, not, ◌&&◌, ◌||◌, leb, cond, min, max, List, [], ◌∷◌, Option, Some, None, is_some, unwrap_or, refl, ap, ap₂, ◌∙◌, arith}
 use Rattle.std.proofs.lemmas.Bool.Decides.{nat_tests}
 use Rattle.mt_base.specs.Trace.{Trace}
-use Rattle.mt_windows.specs.Sending.{Act, may_cut, passed_over, lowest_or_next}
+use Rattle.mt_windows.specs.Sending.{may_cut, passed_over, lowest_or_next}
 use Rattle.carrier.specs.Entries.{Entry, moment}
-use Rattle.carrier.specs.Layout.{Layout, Datagram}
+use Rattle.carrier.specs.Layout.{Layout}
 use Rattle.carrier.specs.Receiving.{owed, peer_window}
 use Rattle.carrier.specs.Sending.{acts, timer, expiry, is_closed, is_waiting}
 use Rattle.carrier.specs.Due.{again, fresh, telling_with, is_due, is_pressing, may_send, IsNextDue}

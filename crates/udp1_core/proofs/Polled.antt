@@ -5,15 +5,15 @@ use Rattle.std.proofs.lemmas.Bool.{cases_lt}
 use Rattle.std.proofs.lemmas.Bool.Decides.{nat_tests}
 use Rattle.mt_base.specs.Trace.{Trace, ◌▷◌}
 use Rattle.mt_windows.specs.Sending.Act.{Cut, Resent}
-use Rattle.mt_windows.specs.Sending.{Act, Limits, cuts, is_open, least, or_else, settled}
+use Rattle.mt_windows.specs.Sending.{Act, cuts, is_open, least, or_else, settled}
 use Rattle.carrier.specs.Entries.{Entry, Polled, moment, pulled}
 use Rattle.carrier.specs.Layout.{Layout, Datagram, Shows, Telling}
 use Rattle.carrier.specs.LayoutLaw.{shown_of, load_shown, telling_shown}
 use Rattle.carrier.specs.Receiving.{accepted, floor, owed, peer_window, is_telling}
 use Rattle.carrier.specs.Sending.{Timer, acts, timer, timer_polled, sends, sends_load, is_waiting, is_over, expiry}
-use Rattle.carrier.specs.Due.{due, meant, meant_at}
-use Rattle.udp1_core.specs.ReceiverView.{Receiver, Hears}
-use Rattle.udp1_core.specs.SenderView.{Sender, Speaks, timer_at, timer_begun}
+use Rattle.carrier.specs.Due.{meant, meant_at}
+use Rattle.udp1_core.specs.ReceiverView.{Hears}
+use Rattle.udp1_core.specs.SenderView.{Speaks, timer_at, timer_begun}
 use Rattle.udp1_core.specs.MachineView.{Machine, StandsIn}
 use Rattle.udp1_core.proofs.Steps.{polls, polled_same}
 

@@ -1,5 +1,5 @@
 -- What a poll of the first machine sends, and what it then stands for.
-use Rattle.std.proofs.Common.{◌≡◌, ℕ, ◌+◌, ◌-◌, ◌*◌, ◌%◌, ◌<◌, ◌≤◌, Bool, true, false, ◌&&◌, ◌||◌, eqb, ltb, leb, cond, max, List, [], length, Option, Some, None, is_some, unwrap_or, refl, sym, ap, ◌∙◌, subst, arith}
+use Rattle.std.proofs.Common.{◌≡◌, ℕ, ◌+◌, ◌-◌, ◌%◌, ◌<◌, ◌≤◌, Bool, true, false, ◌&&◌, ◌||◌, eqb, ltb, leb, cond, max, List, [], length, Option, Some, None, is_some, unwrap_or, refl, sym, ap, ◌∙◌, subst, arith}
 use Rattle.std.specs.Prelude.{if◌then◌else◌}
 use Rattle.std.proofs.lemmas.Bool.{and_parts}
 use Rattle.std.proofs.lemmas.Bool.Decides.{nat_tests}
@@ -11,7 +11,7 @@ use Rattle.mt_windows.specs.Sending.{Act, cuts, lowest_or_next, may_cut, passed_
 use Rattle.mt_windows.specs.FlightView.{slot_at}
 use Rattle.mt_windows.specs.SendingView.{Outbox, Sends, limits, is_unsettled}
 use Rattle.carrier.specs.Entries.{Entry, Polled, pulled}
-use Rattle.carrier.specs.Layout.{Layout, Datagram, Carried}
+use Rattle.carrier.specs.Layout.{Layout, Datagram}
 use Rattle.carrier.specs.LayoutLaw.{IsCarried}
 use Rattle.carrier.specs.Receiving.{accepted, floor, owed, peer_window, received}
 use Rattle.carrier.specs.Sending.{acts, timer, expires, is_closed, sends_part}

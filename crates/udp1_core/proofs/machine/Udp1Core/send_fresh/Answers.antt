@@ -1,4 +1,4 @@
-use Rattle.std.proofs.Common.{◌≡◌, ℕ, ◌+◌, ◌-◌, take, refl, None, Some, sym, subst, ap, ◌∙◌}
+use Rattle.std.proofs.Common.{◌≡◌, take, refl, None, sym, subst}
 use Rattle.mt_base.specs.Trace.{◌▷◌}
 use Rattle.mt_windows.specs.Sending.Act.{Cut}
 use Rattle.udp1_core.specs.ReceiverView.{Hears}

@@ -1,10 +1,10 @@
-use Rattle.std.proofs.Common.{◌≡◌, ℕ, ◌+◌, ◌≤◌, max, List, [], Option, Some, None, take, length, if◌then◌else◌, arith, option_map, sym, ap, ◌∙◌, subst}
+use Rattle.std.proofs.Common.{◌≡◌, [], Some, None, take, length, if◌then◌else◌, arith, option_map, sym, ◌∙◌, subst}
 use Rattle.mt_base.specs.Trace.{◌▷◌}
 use Rattle.carrier.specs.Layout.{Layout}
 use Rattle.mt_windows.specs.Sending.{cuts}
 use Rattle.mt_windows.specs.Sending.Act.{Cut, Resent}
 use Rattle.carrier.specs.Due.{again, bare, fresh, is_pressing, meant_at}
-use Rattle.carrier.specs.Entries.{Polled, pulled}
+use Rattle.carrier.specs.Entries.{pulled}
 use Rattle.carrier.specs.Sending.{acts, timer}
 use Rattle.carrier.specs.Receiving.{accepted, floor, owed, peer_window}
 use Rattle.udp1_packets.specs.Layout.{spelled}
@@ -12,9 +12,9 @@ use Rattle.udp1_core.specs.declared.choice.Choice.TheVariants.{Again, Fresh, Tel
 use Rattle.udp1_core.specs.FirstLayout.{packet_with}
 use Rattle.udp1_core.specs.ReceiverView.{Hears, head_of}
 use Rattle.udp1_core.specs.SenderView.{Speaks, choice_at, timer_at, timer_begun}
-use Rattle.udp1_core.specs.MachineView.{Machine, Stands, StandsIn, layout_of}
+use Rattle.udp1_core.specs.MachineView.{Machine, Stands, layout_of}
 use Rattle.udp1_core.proofs.Steps.{at_layout, same_sender}
-use Rattle.udp1_core.proofs.Polls.{MeantBy, meant_by, silent, sends_fresh, sends_again, tells_alone, unsettled_cut}
+use Rattle.udp1_core.proofs.Polls.{meant_by, silent, sends_fresh, sends_again, tells_alone, unsettled_cut}
 use Rattle.udp1_core.proofs.machine.Udp1CoreCarrier.poll.Goals as goal
 
 pub returns-in-Silent-clause-trace : goal.returns-in-Silent-clause-trace
