@@ -1,3 +1,5 @@
+pub mod Items
+pub mod SyncItems
 pub mod Parts
 pub mod Bodies
 pub mod Whole

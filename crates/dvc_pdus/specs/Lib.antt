@@ -1,5 +1,6 @@
 pub mod Value
 pub mod Reading
+pub mod ListViews
 pub mod Views
 pub mod Layout
 pub mod Faults

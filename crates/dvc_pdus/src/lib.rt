@@ -7,13 +7,19 @@
 #![tactic(auto)]
 
 mod command;
+mod fields;
 mod laws;
+mod lists;
 mod pdu;
 mod read;
 mod room;
+mod sync;
+mod sync_room;
+mod sync_write;
 mod write;
 
 pub use laws::{one_meaning, reading_by_layout, written_is_read};
+pub use lists::{Ids, SyncList, SyncLists, SyncTypes};
 pub use pdu::{DvcPdu, DvcRefusal};
 pub use read::read_dvc;
 pub use write::write_dvc;

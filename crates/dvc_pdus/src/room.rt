@@ -3,6 +3,7 @@
 ghost use Rattle.std.specs.Prelude.{◌≡◌, ◌+◌, ◌<◌, ◌^◌, length, map, ℕ};
 
 use crate::pdu::DvcPdu;
+use crate::sync_room::{pass_lists, pass_sync};
 use mt_base::NoRoom;
 
 /// The room that is left in an output: the next field's place, and the bytes from there on.
@@ -28,7 +29,7 @@ impl Room {
     }
 
     /// Passes over a field.
-    fn pass(&mut self, need: usize) -> Result<(), NoRoom>
+    pub(crate) fn pass(&mut self, need: usize) -> Result<(), NoRoom>
         ensures { Passes (space self.new) result (pass need (space self.old)) }
     {
         if self.left < need {
@@ -53,7 +54,7 @@ impl Room {
     }
 
     /// Passes over `count` fields of `need` bytes each.
-    fn pass_each(&mut self, count: usize, need: usize) -> Result<(), NoRoom>
+    pub(crate) fn pass_each(&mut self, count: usize, need: usize) -> Result<(), NoRoom>
         ensures { Passes (space self.new) result (passes (replicate count need) (space self.old)) }
     {
         for _ in 0..count {
@@ -95,10 +96,41 @@ impl Room {
                 self.pass_id(id)?;
                 self.pass(4)
             }
+            DvcPdu::DataFirst { id, length, bytes } => {
+                self.pass(1)?;
+                self.pass_id(id)?;
+                self.pass_id(length)?;
+                self.pass(bytes.len())
+            }
             DvcPdu::Data { id, bytes } => {
                 self.pass(1)?;
                 self.pass_id(id)?;
                 self.pass(bytes.len())
+            }
+            DvcPdu::CompressedFirst { id, length, bytes } => {
+                self.pass(1)?;
+                self.pass_id(id)?;
+                self.pass_id(length)?;
+                self.pass(bytes.len())
+            }
+            DvcPdu::Compressed { id, bytes } => {
+                self.pass(1)?;
+                self.pass_id(id)?;
+                self.pass(bytes.len())
+            }
+            DvcPdu::Close { id } => {
+                self.pass(1)?;
+                self.pass_id(id)
+            }
+            DvcPdu::SyncRequest { lists, .. } => {
+                pass_sync(self)?;
+                pass_lists(self, lists)
+            }
+            DvcPdu::SyncResponse { types } => {
+                self.pass(1)?;
+                self.pass(1)?;
+                self.pass(4)?;
+                self.pass_each(types.count(), 4)
             }
         }
     }
