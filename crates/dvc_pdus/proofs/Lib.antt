@@ -5,3 +5,4 @@ pub mod Bodies
 pub mod Whole
 pub mod Theorems
 pub mod Spaces
+pub mod SyncWriting

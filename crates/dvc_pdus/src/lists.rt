@@ -33,7 +33,7 @@ pub struct SyncTypes<'a> {
 }
 
 impl<'a> Ids<'a> {
-    ghost use Rattle.std.specs.Prelude.{◌≡◌};
+    ghost use Rattle.std.specs.Prelude.{◌≡◌, ◌<◌, ◌^◌, length};
     ghost use Rattle.dvc_pdus.specs.Reading.{items_in, number_at};
     ghost use Rattle.dvc_pdus.specs.ListViews.{ids_left};
 
@@ -42,6 +42,15 @@ impl<'a> Ids<'a> {
         ensures { ids_left result ≡ items_in number_at count bytes.entry.now }
     {
         Ids { count, bytes }
+    }
+
+    /// How many ids are left.
+    #[tactic(auto, using(crate::proofs::SyncWriting::items_few))]
+    pub(crate) fn len(self) -> usize
+        ensures exact { result ≡ length (ids_left self.entry) }
+        ensures few { result < 2 ^ 16 }
+    {
+        self.count()
     }
 }
 
@@ -59,7 +68,7 @@ impl<'a> SyncLists<'a> {
 }
 
 impl<'a> SyncTypes<'a> {
-    ghost use Rattle.std.specs.Prelude.{◌≡◌};
+    ghost use Rattle.std.specs.Prelude.{◌≡◌, ◌<◌, ◌^◌, length};
     ghost use Rattle.dvc_pdus.specs.Reading.{items_in, kind_at};
     ghost use Rattle.dvc_pdus.specs.ListViews.{types_left};
 
@@ -68,6 +77,15 @@ impl<'a> SyncTypes<'a> {
         ensures { types_left result ≡ items_in kind_at count bytes.entry.now }
     {
         SyncTypes { count, bytes }
+    }
+
+    /// How many types are left.
+    #[tactic(auto, using(crate::proofs::SyncWriting::items_few))]
+    pub(crate) fn len(self) -> usize
+        ensures exact { result ≡ length (types_left self.entry) }
+        ensures few { result < 2 ^ 32 }
+    {
+        self.count()
     }
 }
 

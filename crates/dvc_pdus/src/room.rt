@@ -75,6 +75,7 @@ impl Room {
     }
 
     /// Passes over the fields of a PDU.
+    #[tactic(auto, using(crate::proofs::SyncWriting::type_lengths))]
     pub(crate) fn pass_pdu(&mut self, pdu: &DvcPdu<'_>) -> Result<(), NoRoom>
         ensures { Passes (space self.new) result (passes (map length (fields (pdu_of pdu.now))) (space self.old)) }
     {
@@ -130,7 +131,7 @@ impl Room {
                 self.pass(1)?;
                 self.pass(1)?;
                 self.pass(4)?;
-                self.pass_each(types.count(), 4)
+                self.pass_each(types.len(), 4)
             }
         }
     }

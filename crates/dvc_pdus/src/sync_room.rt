@@ -35,7 +35,7 @@ pub(crate) fn pass_lists(room: &mut Room, lists: SyncLists<'_>) -> Result<(), No
     ensures { Passes (space room.new) result (passes (map length (lists_fields (lists_left lists.entry))) (space room.old)) }
 {
     for list in lists {
-        pass_list(room, list.ids.count())?;
+        pass_list(room, list.ids.len())?;
     }
     Ok(())
 }

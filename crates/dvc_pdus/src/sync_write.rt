@@ -32,7 +32,7 @@ fn lists_length(lists: SyncLists<'_>) -> usize
 {
     let mut length = 0;
     for list in lists {
-        length += 6 + 4 * list.ids.count();
+        length += 6 + 4 * list.ids.len();
     }
     length
 }
@@ -55,7 +55,7 @@ fn put_list(out: &mut Out<'_>, list: SyncList<'_>) -> Result<(), NoRoom>
     ensures written { Writes (spot out.new) result (puts (list_fields (list_of list.entry)) (spot out.old)) }
 {
     out.put_u32_le(tunnel_type(list.kind))?;
-    out.put_u16_le(list.ids.count() as u16)?;
+    out.put_u16_le(list.ids.len() as u16)?;
     put_ids(out, list.ids)
 }
 
@@ -118,6 +118,6 @@ pub(crate) fn put_response(out: &mut Out<'_>, types: SyncTypes<'_>) -> Result<()
 {
     out.put(&[SYNC_RESPONSE * 16])?;
     out.put(&[0])?;
-    out.put_u32_le(types.count() as u32)?;
+    out.put_u32_le(types.len() as u32)?;
     put_types(out, types)
 }
