@@ -77,14 +77,17 @@ module _ {A : Type 0} {read : Left → Result (A × Left) DvcRefusal} {text : A 
       with_first b (inl f) =
           let a = f.1 in
           let place : at + length (text b.value) + length (flat_map text a.before) ≡ at + length (text b.value ++ flat_map text a.before) = omega (arith, length-append (text b.value) (flat_map text a.before)) in
-          inl (f.0, record {
-            before = b.value ∷ a.before;
-            rest = a.rest;
-            good = All-cons Good b.value a.before b.good a.good;
-            fewer = let few = a.fewer in omega arith;
-            bytes_are = b.bytes_are ∙ ap (λ t. text b.value ++ t) a.bytes_are ∙ sym (append_assoc (text b.value) (flat_map text a.before) a.rest);
-            fault = subst (λ n. Fault n a.rest f.0) place a.fault;
-          })
+          inl (
+            f.0,
+            record {
+              before = b.value ∷ a.before;
+              rest = a.rest;
+              good = All-cons Good b.value a.before b.good a.good;
+              fewer = let few = a.fewer in omega arith;
+              bytes_are = b.bytes_are ∙ ap (λ t. text b.value ++ t) a.bytes_are ∙ sym (append_assoc (text b.value) (flat_map text a.before) a.rest);
+              fault = subst (λ n. Fault n a.rest f.0) place a.fault;
+            },
+          )
       with_first b (inr i) = inr (record {
         items = b.value ∷ i.items;
         rest = i.rest;

@@ -2,7 +2,11 @@ pub mod Items
 pub mod SyncItems
 pub mod Parts
 pub mod Bodies
-pub mod Whole
+pub mod SyncBodies
+pub mod Headers
+pub mod SpelledReads
+pub mod Refusals
+pub mod Decisions
 pub mod Theorems
 pub mod Spaces
 pub mod SyncWriting

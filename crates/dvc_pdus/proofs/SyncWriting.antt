@@ -19,7 +19,7 @@ items_few read zero bytes = omega arith
 items_few {A} read (suc n) bytes = by_first (read (record { at = 0; bytes = bytes })) (items_few read n)
   where
     by_first : (r : Result (A × Left) DvcRefusal) → ((bytes : List ℕ) → length (items_in read n bytes) ≤ n)
-        → length (elim r as (λ r. List A) [ | Ok first ↦ first.0 ∷ items_in read n (first.1).bytes | Err e ↦ [] ]) ≤ suc n
+        → length (elim r as (λ r. List A) [ Ok first ↦ first.0 ∷ items_in read n (first.1).bytes | Err e ↦ [] ]) ≤ suc n
     by_first (Ok (x, t)) few = let fewer = few t.bytes in omega arith
     by_first (Err e) few = omega arith
 
