@@ -10,3 +10,4 @@ pub mod Decisions
 pub mod Theorems
 pub mod Spaces
 pub mod SyncWriting
+pub mod SyncMoves

@@ -32,17 +32,17 @@ pub type_lengths : (types : List Kind) → map length (type_fields types) ≡ re
 type_lengths [] = refl
 type_lengths (kind ∷ types) = ap (λ ns. 4 ∷ ns) (type_lengths types)
 
-passes-append : (ms ns : List ℕ) (s : Space) → passes (ms ++ ns) s ≡ then_pass (passes ms s) (passes ns)
-passes-append [] ns s = refl
-passes-append (m ∷ ms) ns s =
+pub passes_append : (ms ns : List ℕ) (s : Space) → passes (ms ++ ns) s ≡ then_pass (passes ms s) (passes ns)
+passes_append [] ns s = refl
+passes_append (m ∷ ms) ns s =
     elim (pass m s) as (λ r. then_pass r (passes (ms ++ ns)) ≡ then_pass (then_pass r (passes ms)) (passes ns)) [
-      | Ok t ↦ passes-append ms ns t
+      | Ok t ↦ passes_append ms ns t
       | Err e ↦ refl
     ]
 
-map_length-append : (fs gs : List (List ℕ)) → map length (fs ++ gs) ≡ map length fs ++ map length gs
-map_length-append [] gs = refl
-map_length-append (f ∷ fs) gs = ap (λ ns. length f ∷ ns) (map_length-append fs gs)
+pub map_length_append : (fs gs : List (List ℕ)) → map length (fs ++ gs) ≡ map length fs ++ map length gs
+map_length_append [] gs = refl
+map_length_append (f ∷ fs) gs = ap (λ ns. length f ∷ ns) (map_length_append fs gs)
 
 -- the first list is passed over, and then the others
 lists_step : (ls rest : List ChannelList) (l : ChannelList) (n : ℕ) (s : Space) → ls ≡ l ∷ rest → n ≡ length l.ids
@@ -50,8 +50,8 @@ lists_step : (ls rest : List ChannelList) (l : ChannelList) (n : ℕ) (s : Space
 lists_step ls rest l n s is count =
     let lengths : map length (list_fields l) ≡ 4 ∷ 2 ∷ replicate n 4 = ap (λ ns. 4 ∷ 2 ∷ ns) (id_lengths l.ids ∙ ap (λ m. replicate m 4) (sym count)) in
     ap (λ ls. passes (map length (lists_fields ls)) s) is
-    ∙ ap (λ ns. passes ns s) (map_length-append (list_fields l) (lists_fields rest))
-    ∙ passes-append (map length (list_fields l)) (map length (lists_fields rest)) s
+    ∙ ap (λ ns. passes ns s) (map_length_append (list_fields l) (lists_fields rest))
+    ∙ passes_append (map length (list_fields l)) (map length (lists_fields rest)) s
     ∙ ap (λ ns. then_pass (passes ns s) (passes (map length (lists_fields rest)))) lengths
 
 pub list_passed : (ls rest : List ChannelList) (l : ChannelList) (n : ℕ) (s t : Space) (r : Result Space NoRoom) → ls ≡ l ∷ rest → n ≡ length l.ids

@@ -6,3 +6,4 @@ pub mod Layout
 pub mod Faults
 pub mod Space
 pub mod RoomView
+pub mod Moves

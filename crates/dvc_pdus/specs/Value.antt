@@ -147,8 +147,7 @@ IsPdu from pdu = Fits from pdu × (length (spelled pdu) ≤ 1600)
 
 -- the list of these channels, where there are some
 abbrev pub list_to : Kind → List ℕ → List ChannelList
-list_to kind [] = []
-list_to kind (id ∷ ids) = record { kind = kind; ids = id ∷ ids } ∷ []
+list_to kind ids = if length ids == 0 then [] else record { kind = kind; ids = ids } ∷ []
 
 -- The Soft-Sync request that moves these channels to a reliable tunnel and those to a lossy one: the
 -- flags TCP_FLUSHED and CHANNEL_LIST_PRESENT, and a list for each tunnel that gets a channel.

@@ -16,7 +16,7 @@ use crate::room::Room;
 use mt_base::{Kind, NoRoom, Out};
 
 /// The code of a kind of tunnel.
-fn tunnel_type(kind: Kind) -> u32
+pub(crate) fn tunnel_type(kind: Kind) -> u32
     ensures { result ≡ tunnel_type kind }
 {
     match kind {
@@ -87,7 +87,12 @@ pub(crate) fn put_request(
 }
 
 /// Writes what stands before the lists of a request, of which its Length counts so many bytes.
-fn put_front(out: &mut Out<'_>, length: usize, flags: u16, tunnels: u16) -> Result<(), NoRoom>
+pub(crate) fn put_front(
+    out: &mut Out<'_>,
+    length: usize,
+    flags: u16,
+    tunnels: u16,
+) -> Result<(), NoRoom>
     requires { length < 2 ^ 32 }
     ensures same { out.new.bytes.ghost_name ≡ out.old.bytes.ghost_name }
     ensures written { Writes (spot out.new) result (puts ((0x80 ∷ []) ∷ (0 ∷ []) ∷ little_bytes 4 length ∷ little_bytes 2 flags ∷ little_bytes 2 tunnels ∷ []) (spot out.old)) }
