@@ -2,17 +2,10 @@
 use Rattle.std.proofs.Common.{◌≡◌, ℕ, zero, suc, ◌+◌, ◌/◌, ◌%◌, ◌<◌, ◌≤◌, Bool, true, false, List, [], ◌∷◌, ◌++◌, length, drop, replicate, All, inl, inr, refl, sym, ap, ◌∙◌, subst, arith, lit<}
 use Rattle.std.proofs.lemmas.List.{length-replicate, length-take, length-drop, take-append-drop}
 use Rattle.std.proofs.lemmas.List.Elements.{All-cons}
-use Rattle.mt_base.proofs.Stretches.{stretch_some, stretch_short, stretch_equal, stretch_greatest, first_is}
+use Rattle.mt_base.proofs.Stretches.{stretch_some, longest_is, longest_one, first_is}
 use Rattle.ack_vector.specs.Elements.{IsGood, run_of, flags_in, flags_of, Spell}
-use Rattle.ack_vector.specs.Longest.{element, longest, elements_within, elements_of, IsLongest, HoldLongest}
-
--- the computed stretch is the longest
-pub longest_is : (b : Bool) (fs : List Bool) → IsLongest b (longest b fs) fs
-longest_is b fs = record {
-  equal = stretch_equal 63 b fs;
-  short = stretch_short 63 b fs;
-  greatest = λ m h e. stretch_greatest 63 m b fs h e;
-}
+use Rattle.mt_base.specs.Longest.{longest}
+use Rattle.ack_vector.specs.Longest.{element, elements_within, elements_of, HoldLongest}
 
 -- how many flags may be left makes no difference
 within_enough : (j k : ℕ) (fs : List Bool) → length fs ≤ j → length fs ≤ k
@@ -60,14 +53,6 @@ holds_within (suc k) (f ∷ fs) h =
 
 pub holds : (fs : List Bool) → HoldLongest (elements_of fs) fs
 holds fs = holds_within (length fs) fs (omega arith)
-
--- the longest stretch is one number
-pub longest_one : (b : Bool) (n : ℕ) (fs : List Bool) → IsLongest b n fs → n ≡ longest b fs
-longest_one b n fs is =
-    let other = longest_is b fs in
-    let up : longest b fs ≤ n = is.greatest (longest b fs) other.short other.equal in
-    let down : n ≤ longest b fs = other.greatest n is.short is.equal in
-    omega arith
 
 -- no other elements hold the longest stretches
 pub holds_one : (es : List ℕ) (fs : List Bool) → HoldLongest es fs → es ≡ elements_of fs

@@ -4,7 +4,8 @@ use Rattle.mt_base.specs.declared.errors.NoRoom.{NoRoom}
 use Rattle.mt_base.specs.Writing.{Spot, put}
 use Rattle.mt_base.proofs.Bytes.{big_bytes, IsUnderWay, IsFull, under_way_more, under_way_full}
 use Rattle.mt_base.proofs.Stretches.{first_of, stretch_short}
-use Rattle.ack_vector.specs.Longest.{element, longest, elements_of}
+use Rattle.mt_base.specs.Longest.{longest}
+use Rattle.ack_vector.specs.Longest.{element, elements_of}
 use Rattle.ack_vector.proofs.LongestLemmas.{elements_of-cons, elements_of-nil, element_small}
 
 -- the next element, where a flag is left

@@ -1,9 +1,9 @@
 //! Flags as elements.
 
 ghost use Rattle.std.specs.Prelude.{◌≡◌, ◌<◌, ◌≤◌, ◌++◌, IfOk, IfErr, IsOk, OnErr, length, drop, take};
-ghost use Rattle.ack_vector.specs.Longest.{element, elements_of, longest};
+ghost use Rattle.ack_vector.specs.Longest.{element, elements_of};
 
-use mt_base::{NoRoom, Out};
+use mt_base::{NoRoom, Out, stretch};
 
 /// Writes elements for the flags, from the first on, and gives how many.
 ///
@@ -26,16 +26,6 @@ pub fn write_runs(flags: &[bool], out: &mut [u8]) -> Result<usize, NoRoom>
         (_, rest) = rest.split_at(usize::from(length));
     }
     Ok(place.at())
-}
-
-/// How many of the next 63 flags are this one, up to the first that is not.
-fn stretch(received: bool, flags: &[bool]) -> u8
-    ensures exact { result ≡ longest received flags.now }
-    ensures short { result ≤ 63 }
-    ensures within { result ≤ length flags.now }
-{
-    let next = flags.iter().take(63);
-    next.take_while(|flag| **flag == received).count() as u8
 }
 
 /// The element of so many equal flags.

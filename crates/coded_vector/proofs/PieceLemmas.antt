@@ -4,9 +4,10 @@ use Rattle.std.proofs.lemmas.List.{length-replicate, length-take, length-drop, t
 use Rattle.std.proofs.lemmas.Bool.{cases_lt}
 use Rattle.std.proofs.Math.Nat.{pow-suc}
 use Rattle.std.proofs.lemmas.Bool.Decides.{nat_tests}
-use Rattle.mt_base.proofs.Stretches.{stretch_some, stretch_short, stretch_equal, stretch_greatest, first_is}
+use Rattle.mt_base.proofs.Stretches.{stretch_some, stretch_equal, stretch_greatest, longest_is, longest_one, first_is}
 use Rattle.coded_vector.specs.CodedBytes.{bits, flags_in, flags_of}
-use Rattle.coded_vector.specs.Written.{run_byte, bits_byte, longest, takes_run, next_count, next_byte, coded_within, coded_of, IsLongest, IsRun, IsSeven, HoldPieces}
+use Rattle.mt_base.specs.Longest.{longest}
+use Rattle.coded_vector.specs.Written.{run_byte, bits_byte, takes_run, next_count, next_byte, coded_within, coded_of, IsRun, IsSeven, HoldPieces}
 use Rattle.coded_vector.proofs.FlagLemmas.{flags_in_low, flags_in_high}
 
 cond_some : (b : Bool) (n : ℕ) → 0 < n → 0 < cond b n 7
@@ -50,21 +51,6 @@ coded_of-cons f fs =
 pub coded_of-nil : coded_of [] ≡ []
 unfolding coded_of
 coded_of-nil = refl
-
--- the computed stretch is the longest, and no other number is
-longest_is : (b : Bool) (fs : List Bool) → IsLongest b (longest b fs) fs
-longest_is b fs = record {
-  equal = stretch_equal 63 b fs;
-  short = stretch_short 63 b fs;
-  greatest = λ m h e. stretch_greatest 63 m b fs h e;
-}
-
-longest_one : (b : Bool) (n : ℕ) (fs : List Bool) → IsLongest b n fs → n ≡ longest b fs
-longest_one b n fs is =
-    let other = longest_is b fs in
-    let up : longest b fs ≤ n = is.greatest (longest b fs) other.short other.equal in
-    let down : n ≤ longest b fs = other.greatest n is.short is.equal in
-    omega arith
 
 -- when a run is written
 abbrev Chosen : ℕ → ℕ → Type 0

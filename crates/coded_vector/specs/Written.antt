@@ -1,8 +1,8 @@
 -- The coded bytes that are written for flags: runs of the longest stretch of equal flags that
 -- comes next, at most 63, where that is seven flags or more or all that are left, and seven flags
 -- in one byte where not. Fewer than seven flags at the end are runs too.
-use Rattle.std.specs.Prelude.{◌≡◌, ℕ, zero, suc, ◌+◌, ◌*◌, ◌<◌, ◌≤◌, ◌==◌, ◌||◌, ◌⊎◌, Bool, not, List, [], ◌∷◌, length, take, drop, replicate, nat_lt, nat_le, if◌then◌else◌}
-use Rattle.std.specs.List.{prefix_len}
+use Rattle.std.specs.Prelude.{◌≡◌, ℕ, zero, suc, ◌+◌, ◌*◌, ◌<◌, ◌≤◌, ◌==◌, ◌||◌, ◌⊎◌, Bool, List, [], ◌∷◌, length, take, drop, replicate, nat_lt, nat_le, if◌then◌else◌}
+use Rattle.mt_base.specs.Longest.{longest, IsLongest}
 
 -- the byte of a run of n equal flags
 abbrev pub run_byte : Bool → ℕ → ℕ
@@ -12,10 +12,6 @@ run_byte received n = if received then 192 + n else 128 + n
 abbrev pub bits_byte : List Bool → ℕ
 bits_byte [] = 0
 bits_byte (flag ∷ flags) = (if flag then 1 else 0) + 2 * bits_byte flags
-
--- how many of the next 63 flags are this one, up to the first that is not
-abbrev pub longest : Bool → List Bool → ℕ
-longest received flags = prefix_len (λ flag. if received then flag else not flag) (take 63 flags)
 
 -- a run is written of a stretch of n flags, where so many flags are left
 abbrev pub takes_run : ℕ → ℕ → Bool
@@ -44,12 +40,6 @@ coded_within (suc most) (flag ∷ flags) =
 -- the coded bytes that are written for flags
 unfoldable pub coded_of : List Bool → List ℕ
 coded_of flags = coded_within (length flags) flags
-
--- The first n flags are all this one, n is at most 63, and no greater number is so.
-pub record IsLongest (received : Bool) (n : ℕ) (flags : List Bool) : Type 0 where
-  pub equal : take n flags ≡ replicate n received
-  pub short : n ≤ 63
-  pub greatest : (m : ℕ) → m ≤ 63 → take m flags ≡ replicate m received → m ≤ n
 
 -- This byte is a run that holds the first n flags: the longest stretch that comes next, of seven
 -- flags or more, or of all that are left, or fewer than seven are left.

@@ -1,9 +1,9 @@
 //! Flags as coded bytes.
 
 ghost use Rattle.std.specs.Prelude.{◌≡◌, ◌<◌, ◌≤◌, ◌++◌, ◌^◌, IfOk, IfErr, IsOk, OnErr, Some, length, drop, slice_get, take};
-ghost use Rattle.coded_vector.specs.Written.{bits_byte, coded_of, longest, next_byte, next_count, run_byte};
+ghost use Rattle.coded_vector.specs.Written.{bits_byte, coded_of, next_byte, next_count, run_byte};
 
-use mt_base::{NoRoom, Out};
+use mt_base::{NoRoom, Out, stretch};
 
 /// Writes coded bytes for the flags, from the first on, and gives how many.
 ///
@@ -45,16 +45,6 @@ fn next_piece(flag: bool, flags: &[bool]) -> (u8, usize)
         let (seven, _) = flags.split_at(7);
         (bits(seven), 7)
     }
-}
-
-/// How many of the next 63 flags are this one, up to the first that is not.
-fn stretch(received: bool, flags: &[bool]) -> u8
-    ensures exact { result ≡ longest received flags.now }
-    ensures short { result ≤ 63 }
-    ensures within { result ≤ length flags.now }
-{
-    let next = flags.iter().take(63);
-    next.take_while(|flag| **flag == received).count() as u8
 }
 
 /// The byte of a run of so many equal flags.

@@ -10,7 +10,7 @@ use Rattle.mt_base.specs.declared.kinds.Kind.{Kind}
 use Rattle.mt_base.specs.declared.kinds.Kind.TheVariants.{Reliable, Lossy}
 use Rattle.mt_base.specs.Writing.{Spot, puts, then_put, joined}
 use Rattle.mt_base.proofs.Fill.{puts-append, joined-append}
-use Rattle.dvc_pdus.specs.Space.{Space, passes, then_pass}
+use Rattle.mt_base.specs.Space.{Space, passes, then_pass}
 use Rattle.dvc_pdus.specs.Moves.{channels_length, channel_lengths}
 use Rattle.dvc_pdus.specs.Value.{IsList, list_fields, lists_fields, list_to, lists_of}
 use Rattle.dvc_pdus.proofs.SyncWriting.{id_lengths, list_length, passes_append, map_length_append}

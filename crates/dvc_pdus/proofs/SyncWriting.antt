@@ -8,7 +8,7 @@ use Rattle.mt_base.specs.Reading.{Left}
 use Rattle.mt_base.specs.Writing.{Spot, puts, then_put, joined}
 use Rattle.mt_base.proofs.Fill.{puts-append, joined-append}
 use Rattle.dvc_pdus.specs.declared.pdu.DvcRefusal.{DvcRefusal}
-use Rattle.dvc_pdus.specs.Space.{Space, pass, passes, then_pass}
+use Rattle.mt_base.specs.Space.{Space, pass, passes, then_pass}
 use Rattle.dvc_pdus.specs.Reading.{items_in}
 use Rattle.dvc_pdus.specs.Value.{ChannelList, id_fields, list_fields, lists_fields, type_fields, type_field}
 use Rattle.mt_base.specs.declared.kinds.Kind.{Kind}

@@ -4,6 +4,4 @@ pub mod ListViews
 pub mod Views
 pub mod Layout
 pub mod Faults
-pub mod Space
-pub mod RoomView
 pub mod Moves

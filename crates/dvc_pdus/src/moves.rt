@@ -6,15 +6,14 @@ ghost use Rattle.mt_base.specs.OutView.{spot};
 ghost use Rattle.mt_base.specs.declared.kinds.Kind.{Kind};
 ghost use Rattle.mt_base.specs.declared.kinds.Kind.TheVariants.{Reliable, Lossy};
 ghost use Rattle.mt_base.specs.declared.kinds.Role.TheVariants.{Server};
-ghost use Rattle.dvc_pdus.specs.Space.{Passes, passes};
-ghost use Rattle.dvc_pdus.specs.RoomView.{space};
+ghost use Rattle.mt_base.specs.Space.{Passes, passes};
+ghost use Rattle.mt_base.specs.RoomView.{space};
 ghost use Rattle.dvc_pdus.specs.Moves.{channels_length, channel_lengths};
 ghost use Rattle.dvc_pdus.specs.Value.{Fits, fields, spelled, id_fields, lists_fields, list_to, lists_of, sync_length, sync_request};
 
-use crate::room::Room;
 use crate::sync_room::{pass_list, pass_sync};
 use crate::sync_write::{put_front, tunnel_type};
-use mt_base::{Kind, NoRoom, Out};
+use mt_base::{Kind, NoRoom, Out, Room};
 
 /// The flags TCP_FLUSHED and CHANNEL_LIST_PRESENT.
 const FLAGS: u16 = 0x03;

@@ -1,14 +1,14 @@
 //! Whether Soft-Sync PDUs find a place in an output, before a byte of them is written.
 
 ghost use Rattle.std.specs.Prelude.{◌≡◌, ◌∷◌, [], length, map, replicate};
-ghost use Rattle.dvc_pdus.specs.Space.{Passes, pass, passes};
-ghost use Rattle.dvc_pdus.specs.RoomView.{space};
+ghost use Rattle.mt_base.specs.Space.{Passes, pass, passes};
+ghost use Rattle.mt_base.specs.RoomView.{space};
 ghost use Rattle.dvc_pdus.specs.Value.{id_fields, list_fields, lists_fields};
 ghost use Rattle.dvc_pdus.specs.ListViews.{list_of, lists_left};
 
 use crate::lists::{SyncList, SyncLists};
-use crate::room::Room;
-use mt_base::NoRoom;
+use crate::room::pass_each;
+use mt_base::{NoRoom, Room};
 
 /// Passes over what stands before the lists of a request.
 pub(crate) fn pass_sync(room: &mut Room) -> Result<(), NoRoom>
@@ -27,7 +27,7 @@ pub(crate) fn pass_list(room: &mut Room, ids: usize) -> Result<(), NoRoom>
 {
     room.pass(4)?;
     room.pass(2)?;
-    room.pass_each(ids, 4)
+    pass_each(room, ids, 4)
 }
 
 /// Passes over the lists of a request.

@@ -9,9 +9,9 @@ ghost use Rattle.dvc_pdus.specs.Views.{pdu_of};
 
 use crate::command::{CAPABILITIES, CLOSE, COMPRESSED, COMPRESSED_FIRST, CREATE, DATA, DATA_FIRST};
 use crate::pdu::DvcPdu;
-use crate::room::Room;
+use crate::room::pass_pdu;
 use crate::sync_write::{put_request, put_response};
-use mt_base::{NoRoom, Out};
+use mt_base::{NoRoom, Out, Room};
 
 /// The code of the smallest size that an id or a length fits.
 fn size_code(number: u32) -> u8
@@ -136,7 +136,7 @@ fn find_room(pdu: &DvcPdu<'_>, out: &[u8]) -> Result<(), NoRoom>
     ensures found { OnOk result (length (joined (fields (pdu_of pdu.now))) ≤ length out.now) }
     ensures refused { IfErr result (λ e. puts (fields (pdu_of pdu.now)) (record { before = []; after = out.now }) ≡ Err e) }
 {
-    Room::new(out.len()).pass_pdu(pdu)
+    pass_pdu(&mut Room::new(out.len()), pdu)
 }
 
 /// Writes a PDU at the front of `out`, and gives the number of its bytes (MS-RDPEDYC section 2.2).

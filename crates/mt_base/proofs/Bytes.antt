@@ -1,27 +1,19 @@
 -- Lemmas on writing a list of bytes into a buffer, one after the other.
-use Rattle.std.proofs.Common.{◌≡◌, ℕ, ◌+◌, ◌<◌, ◌≤◌, Bool, true, false, ltb, cond, List, [], ◌∷◌, ◌++◌, length, take, drop, Ok, Err, refl, sym, ap, ◌∙◌, append_assoc, append-nil, arith, length-append}
+use Rattle.std.proofs.Common.{◌≡◌, ℕ, ◌+◌, ◌<◌, ◌≤◌, ltb, List, [], ◌∷◌, ◌++◌, length, take, drop, Ok, Err, sym, ap, ◌∙◌, append_assoc, append-nil, arith, length-append}
 use Rattle.std.proofs.lemmas.List.{drop-drop, length-drop, take-append-le, take-append-drop, take_all}
 use Rattle.std.proofs.lemmas.Bool.Decides.{nat_tests}
 use Rattle.std.specs.Int.{byte_at}
 pub use Rattle.byteorder.specs.Endian.{big_bytes}
 use Rattle.mt_base.specs.declared.errors.NoRoom.{NoRoom}
 use Rattle.mt_base.specs.Writing.{Spot, put}
-use Rattle.mt_base.proofs.Fill.{put_filled}
+use Rattle.mt_base.proofs.Lists.{nothing}
+use Rattle.mt_base.proofs.Fill.{guard_err, put_filled}
 
 -- a spot on the way through `whole`, of which `todo` is still to be written, in a buffer that held `from`
 pub record IsUnderWay (whole todo from : List ℕ) (s : Spot) : Type 0 where
   pub so_far : s.before ++ todo ≡ whole
   pub behind : s.after ≡ drop (length s.before) from
   pub fits : length s.before ≤ length from
-
-guard_err : {A E : Type 0} (b : Bool) (d e : E) (x : A) → cond b (Err d) (Ok x) ≡ Err e
-    → (b ≡ true) × (d ≡ e)
-guard_err true d e x h = (refl, cc)
-guard_err false d e x h = cc
-
-nothing : (xs : List ℕ) → length xs ≡ 0 → xs ≡ []
-nothing [] h = refl
-nothing (x ∷ xs) h = absurd (omega arith)
 
 put_refused : (f : List ℕ) (s : Spot) (e : NoRoom) → put f s ≡ Err e
     → (length s.after < length f) × (e ≡ record { at = length s.before; need = length f })

@@ -10,18 +10,9 @@ use Rattle.byteorder.specs.Numbers.{big_number-reads_back, little_number-reads_b
 use Rattle.mt_base.specs.declared.errors.Short.{Short}
 use Rattle.mt_base.specs.Reading.{Left, past, field, block, big, little}
 use Rattle.mt_base.specs.Writing.{Spot, puts, joined}
+pub use Rattle.mt_base.specs.Parts.{◌>>=◌, cut_as}
 use Rattle.mt_base.proofs.Fill.{finished}
 use Rattle.mt_base.proofs.Numbers.{IsBytes, little_number-lt, big_number-lt, little_bytes-number, big_bytes-number}
-
--- the next read, where the one before it went well
-abbrev pub then_read : {A B E : Type 0} → Result A E → (A → Result B E) → Result B E
-then_read (Ok x) next = next x
-then_read (Err e) next = Err e
-
--- a field that is cut short is a refusal of the layout
-abbrev pub cut_as : {A E : Type 0} → (Short → E) → Result (A × Left) Short → Result (A × Left) E
-cut_as wrap (Ok x) = Ok x
-cut_as wrap (Err e) = Err (wrap e)
 
 -- what is left behind a text
 abbrev pub behind : Left → List ℕ → List ℕ → Left
@@ -70,12 +61,12 @@ either (Ok x) = inl (x, refl)
 either (Err e) = inr (e, refl)
 
 -- where a chain ended well, its first read did
-pub step : {A B E : Type 0} (r : Result A E) (next : A → Result B E) (y : B) → then_read r next ≡ Ok y → (x : A) × (r ≡ Ok x) × (next x ≡ Ok y)
+pub step : {A B E : Type 0} (r : Result A E) (next : A → Result B E) (y : B) → (r >>= next) ≡ Ok y → (x : A) × (r ≡ Ok x) × (next x ≡ Ok y)
 step (Ok x) next y e = (x, refl, e)
 step (Err d) next y e = cc
 
 -- where a chain was refused, its first read was, or the rest of it
-pub missed : {A B E : Type 0} (r : Result A E) (next : A → Result B E) (d : E) → then_read r next ≡ Err d → (r ≡ Err d) ⊎ ((x : A) × (r ≡ Ok x) × (next x ≡ Err d))
+pub missed : {A B E : Type 0} (r : Result A E) (next : A → Result B E) (d : E) → (r >>= next) ≡ Err d → (r ≡ Err d) ⊎ ((x : A) × (r ≡ Ok x) × (next x ≡ Err d))
 missed (Ok x) next d e = inr (x, refl, e)
 missed (Err c) next d e = inl (cc)
 

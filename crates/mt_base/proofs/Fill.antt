@@ -19,6 +19,10 @@ pub joined-append : (xs ys : List (List ℕ)) → joined (xs ++ ys) ≡ joined x
 joined-append [] ys = refl
 joined-append (x ∷ xs) ys = ap (λ t. x ++ t) (joined-append xs ys) ∙ sym (append_assoc x (joined xs) (joined ys))
 
+-- one field behind others
+pub joined-push : (xs : List (List ℕ)) (x : List ℕ) → joined (xs ++ x ∷ []) ≡ joined xs ++ x
+joined-push xs x = joined-append xs (x ∷ []) ∙ ap (λ t. joined xs ++ t) (append-nil x)
+
 -- a spot after fields: they stand before it, in order, and the buffer behind them is as it was
 pub record IsFilled (fs : List (List ℕ)) (s t : Spot) : Type 0 where
   pub before_is : t.before ≡ s.before ++ joined fs
@@ -29,7 +33,7 @@ guard_ok : {A E : Type 0} (b : Bool) (d : E) (x y : A) → cond b (Err d) (Ok x)
 guard_ok true d x y e = cc
 guard_ok false d x y e = (refl, cc)
 
-guard_err : {A E : Type 0} (b : Bool) (d e : E) (x : A) → cond b (Err d) (Ok x) ≡ Err e → (b ≡ true) × (d ≡ e)
+pub guard_err : {A E : Type 0} (b : Bool) (d e : E) (x : A) → cond b (Err d) (Ok x) ≡ Err e → (b ≡ true) × (d ≡ e)
 guard_err true d e x h = (refl, cc)
 guard_err false d e x h = cc
 

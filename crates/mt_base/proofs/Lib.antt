@@ -2,6 +2,7 @@ pub mod Fill
 pub mod Numbers
 pub mod Fields
 pub mod Fronts
+pub mod Chains
 pub mod Meanings
 pub mod Lists
 pub mod Bytes
@@ -10,3 +11,5 @@ pub mod LowPart
 pub mod Firsts
 pub mod Steps
 pub mod Masks
+pub mod Spaces
+pub mod Tests

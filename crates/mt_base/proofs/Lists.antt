@@ -1,6 +1,16 @@
--- Lemmas on the item at a place of a join, of copies and of a list read from its end.
+-- Lemmas on lists by their items: the ends of a list, and the item at a place of a join, of copies
+-- and of a list read from its end.
 use Rattle.std.proofs.Common.{◌≡◌, ℕ, zero, suc, ◌-◌, ◌<◌, ◌≤◌, List, [], ◌∷◌, ◌++◌, length, reverse, replicate, slice_get, Some, refl, sym, ap, ◌∙◌, arith, add-one}
 use Rattle.std.proofs.lemmas.List.{reverse-append, replicate-append-replicate}
+
+-- a list without items
+pub nothing : {X : Type 0} (xs : List X) → length xs ≡ 0 → xs ≡ []
+nothing [] h = refl
+nothing (x ∷ xs) h = absurd (omega arith)
+
+-- equal lists have equal first items, and equal others
+pub heads : {X : Type 0} (x y : X) (xs ys : List X) → x ∷ xs ≡ y ∷ ys → (x ≡ y) × (xs ≡ ys)
+heads x y xs ys e = (cc, cc)
 
 -- a place in the first of two joined lists
 pub slice_get-append-left : {X : Type 0} (xs ys : List X) (i : ℕ) → i < length xs

@@ -1,9 +1,9 @@
 -- Numbers as bytes: that the bytes of the number that bytes spell are these bytes, in either order.
-use Rattle.std.proofs.Common.{◌≡◌, ℕ, zero, suc, ◌+◌, ◌*◌, ◌/◌, ◌%◌, ◌^◌, ◌<◌, ◌≤◌, List, [], ◌∷◌, length, take, slice_index, inl, inr, refl, sym, ap, ◌∙◌, arith}
+use Rattle.std.proofs.Common.{◌≡◌, ℕ, zero, suc, ◌+◌, ◌*◌, ◌/◌, ◌%◌, ◌^◌, ◌<◌, ◌≤◌, List, [], ◌∷◌, length, take, replicate, slice_index, inl, inr, refl, sym, ap, ◌∙◌, arith}
 use Rattle.std.proofs.Math.Nat.{mod-eq_of_lt, mul-add-mod_self_right, mul-add-div_right, div-div-eq-div-mul, mul_assoc, pow-succ', div-one, one-le-pow}
 use Rattle.std.proofs.lemmas.Nat.{div-mul-add, mod-mul-add}
 use Rattle.std.proofs.lemmas.List.{get_or_past}
-use Rattle.std.proofs.lemmas.List.Elements.{All-head, All-tail}
+use Rattle.std.proofs.lemmas.List.Elements.{All-head, All-replicate, All-tail}
 use Rattle.std.proofs.lemmas.Bool.{cases_lt}
 use Rattle.std.specs.List.{All}
 use Rattle.std.specs.Int.{byte_at, bytes_high_first, bytes_low_first}
@@ -13,6 +13,10 @@ use Rattle.byteorder.specs.Numbers.{big_from-cons, little_from-cons, big_from-lt
 -- each number of a list is a byte
 abbrev pub IsBytes : List ℕ → Type 0
 IsBytes xs = All (λ b. b < 256) xs
+
+-- zeros are bytes
+pub zero_bytes : (n : ℕ) → IsBytes (replicate n 0)
+zero_bytes n = All-replicate (λ b. b < 256) n 0 (omega arith)
 
 -- read at any place, a list of bytes gives a byte
 pub byte_anywhere : (xs : List ℕ) → IsBytes xs → (k : ℕ) → slice_index xs k < 256

@@ -3,6 +3,7 @@ use Rattle.std.proofs.Common.{◌≡◌, ℕ, zero, suc, ◌<◌, ◌≤◌, Boo
 use Rattle.std.specs.List.{prefix_len}
 use Rattle.std.proofs.lemmas.List.{length-take}
 use Rattle.std.proofs.lemmas.List.Sums.{prefix_len-le-length}
+use Rattle.mt_base.specs.Longest.{longest, IsLongest}
 
 -- how many of the next m flags are this one, up to the first that is not
 abbrev pub stretch : ℕ → Bool → List Bool → ℕ
@@ -44,6 +45,22 @@ stretch_greatest (suc m) (suc k) true (false ∷ fs) h e = absurd (cc)
 stretch_greatest (suc m) (suc k) false (true ∷ fs) h e = absurd (cc)
 stretch_greatest (suc m) (suc k) false (false ∷ fs) h e =
     omega (arith, stretch_greatest m k false fs (omega arith) (cc))
+
+-- the computed stretch is the longest
+pub longest_is : (b : Bool) (fs : List Bool) → IsLongest b (longest b fs) fs
+longest_is b fs = record {
+  equal = stretch_equal 63 b fs;
+  short = stretch_short 63 b fs;
+  greatest = λ m h e. stretch_greatest 63 m b fs h e;
+}
+
+-- and no other number is
+pub longest_one : (b : Bool) (n : ℕ) (fs : List Bool) → IsLongest b n fs → n ≡ longest b fs
+longest_one b n fs is =
+    let other = longest_is b fs in
+    let up : longest b fs ≤ n = is.greatest (longest b fs) other.short other.equal in
+    let down : n ≤ longest b fs = other.greatest n is.short is.equal in
+    omega arith
 
 -- the first of some equal flags
 pub first_is : (b : Bool) (n : ℕ) (fs : List Bool) → 0 < n → take n fs ≡ replicate n b

@@ -4,4 +4,8 @@ pub mod Nearness
 pub mod Reading
 pub mod CursorView
 pub mod Writing
+pub mod Parts
 pub mod OutView
+pub mod Space
+pub mod RoomView
+pub mod Longest

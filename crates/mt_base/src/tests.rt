@@ -47,6 +47,25 @@ fn writes_each_field(rt: HostRuntime) -> Result<(), Fail> {
 }
 
 #[test]
+fn passes_over_fields(rt: HostRuntime) -> Result<(), Fail> {
+    let mut room = Room::new(5);
+    room.pass(2)?;
+    assert_eq!(rt; room.pass(4), Err(NoRoom { at: 2, need: 4 }));
+    room.pass(3)?;
+    room.pass(0)?;
+    assert_eq!(rt; room.pass(1), Err(NoRoom { at: 5, need: 1 }));
+    Ok(())
+}
+
+#[test]
+fn the_stretch_of_a_flag(rt: HostRuntime) {
+    assert_eq!(rt; stretch(true, &[true, true, false, true]), 2);
+    assert_eq!(rt; stretch(false, &[true]), 0);
+    assert_eq!(rt; stretch(false, &[false; 63]), 63);
+    assert_eq!(rt; stretch(false, &[false; 64]), 63);
+}
+
+#[test]
 fn the_other_end(rt: HostRuntime) {
     assert_eq!(rt; Role::Server.other(), Role::Client);
     assert_eq!(rt; Role::Client.other(), Role::Server);

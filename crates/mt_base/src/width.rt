@@ -17,7 +17,7 @@ pub trait Width {
     ghost is_narrow: { MODULUS ≤ 2 ^ 32 };
 }
 
-/// A number shown in 16 bits (MS-RDPEUDP2 section 2.2.1.2).
+/// A number shown in 16 bits (MS-RDPEUDP2 section 2.2).
 pub struct W16;
 
 impl Width for W16 {
@@ -37,7 +37,7 @@ impl Width for W16 {
     ghost is_narrow = { lit≤ tt };
 }
 
-/// A number shown in 32 bits (MS-RDPEUDP section 2.2.2.1).
+/// A number shown in 32 bits (MS-RDPEUDP section 2.2).
 pub struct W32;
 
 impl Width for W32 {

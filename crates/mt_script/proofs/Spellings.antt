@@ -17,6 +17,7 @@ use Rattle.hex.specs.Hex.{decode_of, encode_lower}
 use Rattle.hex.proofs.HexLemmas.{decode_of-encode_lower, decode_of-ok}
 use Rattle.mt_base.specs.declared.kinds.Role.{Role}
 use Rattle.mt_base.specs.declared.kinds.Role.TheVariants.{Server, Client}
+use Rattle.mt_base.proofs.Tests.{holds_or_not}
 use Rattle.mt_script.specs.declared.event.Event.{Event}
 use Rattle.mt_script.specs.declared.event.Event.TheVariants.{Open, Send, Main}
 use Rattle.mt_script.specs.Lines.{Lacks}
@@ -139,12 +140,8 @@ spelled_line event h =
 
 -- ---- what can be told
 
-told : {P : Type 0} (b : Bool) → Decides b P → P ⊎ (P → ⊥)
-told true h = inl (h.0 refl)
-told false h = inr (λ p. let holds = h.1 p in cc)
-
 same_or_not : (a b : List ℕ) → (a ≡ b) ⊎ (a ≢ b)
-same_or_not a b = told (bytes_eq a b) (bytes_eq-Decides a b)
+same_or_not a b = holds_or_not (bytes_eq a b) (bytes_eq-Decides a b)
 
 -- a word that spells one of these values, or none
 abbrev pub Told : {A : Type 0} → (A → Type 0) → (A → List ℕ) → List ℕ → Type 0
@@ -189,7 +186,7 @@ pub tell_bytes : (word : List ℕ) → Told {A = List ℕ} IsBytes hex_text word
 tell_bytes word =
     elim (same_or_not word (codes "-")) [
       | inl is ↦ inl ([], (λ k d within. absurd (omega arith)), is)
-      | inr other ↦ elim (told (is_lower_hex word && eqb (length word % 2) 0) (is_even_hex word)) [
+      | inr other ↦ elim (holds_or_not (is_lower_hex word && eqb (length word % 2) 0) (is_even_hex word)) [
         | inl digits ↦
             let parts = and_parts (not (eqb (length word) 0)) (list_all is_lower_digit word) digits.0 in
             let m = hex_bytes word digits.1 parts.1 in

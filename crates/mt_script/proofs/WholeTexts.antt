@@ -2,6 +2,7 @@
 use Rattle.std.proofs.Common.{◌≡◌, ℕ, suc, ◌<◌, ◌≤◌, ◌+◌, ◌⊎◌, inl, inr, List, [], ◌∷◌, ◌++◌, length, map, Option, Some, None, Result, Ok, Err, refl, sym, ap, subst, ◌∙◌, arith}
 use Rattle.std.proofs.lemmas.Bool.{cases_lt}
 use Rattle.std.proofs.lemmas.List.{length-map}
+use Rattle.mt_base.proofs.Lists.{heads}
 use Rattle.mt_script.proofs.ScriptLines.{length-Do}
 use Rattle.std.proofs.lemmas.List.Elements.{All-from_recursion, All-head, All-tail, All-weaker, All-map}
 use Rattle.std.specs.List.{All, AllByRecursion}
@@ -106,9 +107,6 @@ no_fault [] line after [] m h hm bad = h
 no_fault [] line after (d ∷ does) m h hm bad = good_or_bad line d m h.0 hm bad
 no_fault (other ∷ before) line after [] m h hm bad = h
 no_fault (other ∷ before) line after (d ∷ does) m h hm bad = no_fault before line after does m h.1 hm bad
-
-heads : (x y : List ℕ) (xs ys : List (List ℕ)) → x ∷ xs ≡ y ∷ ys → (x ≡ y) × (xs ≡ ys)
-heads x y xs ys e = (cc, cc)
 
 -- the first bad line stands at one place
 same_fault : (b c : List (List ℕ)) (x y : List ℕ) (xs ys : List (List ℕ)) (d e : List (Option Event)) (m n : Meaning) → b ++ x ∷ xs ≡ c ++ y ∷ ys → Do b d → Do c e → Means x m → Means y n → IsBad m → IsBad n

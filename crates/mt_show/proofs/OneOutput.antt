@@ -1,6 +1,5 @@
 -- Each text has exactly one answer.
-use Rattle.std.proofs.Common.{◌≡◌, ◌≢◌, ℕ, suc, ◌+◌, ◌≤◌, ◌⊎◌, inl, inr, List, [], ◌∷◌, ◌++◌, length, take, drop, codes, Bool, true, false, Result, Ok, Err, refl, sym, ap, ◌∙◌, subst, arith}
-use Rattle.std.specs.Bool.{Decides}
+use Rattle.std.proofs.Common.{◌≡◌, ◌≢◌, ℕ, suc, ◌+◌, ◌≤◌, ◌⊎◌, inl, inr, List, [], ◌∷◌, ◌++◌, length, take, drop, codes, Result, Ok, Err, refl, sym, ap, ◌∙◌, subst, arith}
 use Rattle.std.specs.List.{All, join_with_byte}
 use Rattle.std.specs.Str.{bytes_eq}
 use Rattle.std.proofs.lemmas.Bool.{cases_lt}
@@ -8,6 +7,8 @@ use Rattle.std.proofs.lemmas.List.Elements.{All-nil, All-cons, All-head, All-tai
 use Rattle.std.proofs.lemmas.Slice.Eq.{bytes_eq-Decides}
 use Rattle.carrier.specs.declared.first_layout.Refusal1.{Refusal1}
 use Rattle.carrier.specs.declared.second_layout.Refusal2.{Refusal2}
+use Rattle.mt_base.proofs.Lists.{heads}
+use Rattle.mt_base.proofs.Tests.{holds_or_not}
 use Rattle.mt_script.specs.Lines.{lines_of, ended}
 use Rattle.mt_script.specs.Spelling.{IsBytes, hex_text}
 use Rattle.mt_script.specs.Meaning.{IsShort, line_limit}
@@ -37,10 +38,6 @@ use Rattle.mt_show.proofs.FirstWords.{behind_first, behind_second, behind_tunnel
 
 -- ---- a line keeps the grammar or breaks it
 
-told : {P : Type 0} (b : Bool) → Decides b P → P ⊎ (P → ⊥)
-told true h = inl (h.0 refl)
-told false h = inr (λ p. let holds = h.1 p in cc)
-
 -- a line that begins with a kind's word
 tell_first : (line : List ℕ) → take 3 line ≡ codes "v1 " → Told {A = List ℕ} IsBytes hex_text (drop 3 line) → Keeps line ⊎ Breaks line
 tell_first line start (inl word) = inl (FirstLayout word.0, word.1, in_parts line (codes "v1 ") (hex_text word.0) start word.2)
@@ -63,7 +60,7 @@ tell_frame line start (inl word) = inl (MainStream word.0, word.1, in_parts line
 tell_frame line start (inr none) = inr (no_frame line start none)
 
 begins : (n : ℕ) (line start : List ℕ) → (take n line ≡ start) ⊎ (take n line ≢ start)
-begins n line start = told (bytes_eq (take n line) start) (bytes_eq-Decides (take n line) start)
+begins n line start = holds_or_not (bytes_eq (take n line) start) (bytes_eq-Decides (take n line) start)
 
 tell_stream : (line : List ℕ) → take 3 line ≢ codes "v1 " → take 3 line ≢ codes "v2 " → Keeps line ⊎ Breaks line
 tell_stream line a b =
@@ -229,9 +226,6 @@ in_the_middle (x ∷ before) line after h = in_the_middle before line after (All
 -- where all lines keep the grammar none is the first that breaks it
 pub none_broken : (lines : List (List ℕ)) (number : ℕ) → All Keeps lines → FirstBroken lines number → ⊥
 none_broken lines number h f = not_both f.line (in_the_middle f.before f.line f.after (subst (All Keeps) f.parts h)) f.broken
-
-heads : (x y : List ℕ) (xs ys : List (List ℕ)) → x ∷ xs ≡ y ∷ ys → (x ≡ y) × (xs ≡ ys)
-heads x y xs ys e = (cc, cc)
 
 same_place : (b c : List (List ℕ)) (x y : List ℕ) (xs ys : List (List ℕ)) → b ++ x ∷ xs ≡ c ++ y ∷ ys → All Keeps b → All Keeps c → Breaks x → Breaks y → length b ≡ length c
 same_place [] [] x y xs ys is hb hc hx hy = refl

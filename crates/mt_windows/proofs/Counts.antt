@@ -1,19 +1,16 @@
 -- Lemmas on counting over parts and transmissions.
-use Rattle.std.proofs.Common.{◌≡◌, ℕ, zero, suc, ◌+◌, ◌-◌, ◌<◌, ◌≤◌, ◌⊎◌, inl, inr, Bool, true, false, eqb, ltb, leb, cond, ◌||◌, ◌&&◌, List, [], ◌∷◌, ◌++◌, length, take, drop, max, Some, None, refl, sym, ap, ◌∙◌, subst, append-nil, arith, length-append, length-drop, length-take}
+use Rattle.std.proofs.Common.{◌≡◌, ℕ, zero, suc, ◌+◌, ◌-◌, ◌<◌, ◌≤◌, ◌⊎◌, inl, inr, Bool, true, false, eqb, ltb, leb, cond, ◌||◌, ◌&&◌, length, take, drop, max, Some, None, refl, sym, ap, ◌∙◌, subst, arith, length-append, length-drop, length-take}
 use Rattle.std.proofs.lemmas.List.{length_push}
 use Rattle.std.proofs.lemmas.Bool.{cases_lt}
 use Rattle.std.proofs.lemmas.Bool.Decides.{nat_tests}
 use Rattle.mt_base.specs.Trace.{Trace, Start, ◌▷◌}
 use Rattle.mt_base.specs.Writing.{joined}
-use Rattle.mt_base.proofs.Fill.{joined-append}
+use Rattle.mt_base.proofs.Fill.{joined-push}
 use Rattle.mt_windows.specs.Sending.Act.{Gave, Cut, Resent, ToldPart, ToldTransmission}
 use Rattle.mt_windows.specs.Sending.{Act, Limits, given, cuts, pieces, least, or_else, last_end, how_many}
 use Rattle.mt_windows.specs.SendingView.{Heard}
 
 -- ---- pieces
-pub joined_push : (xs : List (List ℕ)) (y : List ℕ) → joined (xs ++ y ∷ []) ≡ joined xs ++ y
-joined_push xs y = joined-append xs (y ∷ []) ∙ ap (λ z. joined xs ++ z) (append-nil y)
-
 pub pieces_count : (l : Limits) (t : Trace Act) → length (pieces l t) ≡ cuts t
 pieces_count l Start = refl
 pieces_count l (t ▷ Gave b) = pieces_count l t
@@ -27,7 +24,7 @@ pieces_within l Start = omega arith
 pieces_within l (t ▷ Gave b) = omega (arith, pieces_within l t, length-append (given t) b)
 pieces_within l (t ▷ Cut) =
     let done = joined (pieces l t) in
-    omega (arith, pieces_within l t, ap length (joined_push (pieces l t) (take l.part (drop (length done) (given t)))), length-append done (take l.part (drop (length done) (given t))), length-take l.part (drop (length done) (given t)), length-drop (length done) (given t))
+    omega (arith, pieces_within l t, ap length (joined-push (pieces l t) (take l.part (drop (length done) (given t)))), length-append done (take l.part (drop (length done) (given t))), length-take l.part (drop (length done) (given t)), length-drop (length done) (given t))
 pieces_within l (t ▷ Resent p) = pieces_within l t
 pieces_within l (t ▷ ToldPart p) = pieces_within l t
 pieces_within l (t ▷ ToldTransmission j) = pieces_within l t

@@ -5,9 +5,10 @@ use Rattle.std.proofs.Math.Seq.{take-add}
 use Rattle.std.proofs.lemmas.Bool.Decides.{nat_tests}
 use Rattle.mt_base.specs.Trace.{Trace, Start, ◌▷◌}
 use Rattle.mt_base.specs.Writing.{joined}
+use Rattle.mt_base.proofs.Fill.{joined-push}
 use Rattle.mt_windows.specs.Sending.Act.{Gave, Cut, Resent, ToldPart, ToldTransmission}
 use Rattle.mt_windows.specs.Sending.{Act, Limits, given, cuts, pieces, waiting, piece, part_of, is_recent, settled, sum_of, is_open, queued, WasTold}
-use Rattle.mt_windows.proofs.Counts.{joined_push, pieces_count, pieces_within}
+use Rattle.mt_windows.proofs.Counts.{pieces_count, pieces_within}
 use Rattle.mt_windows.proofs.Sendings.{and_both}
 
 -- ---- laws
@@ -19,10 +20,10 @@ joined_front l (t ▷ Cut) =
     let x = take l.part (drop (length done) (given t)) in
     let size : length x ≡ min l.part (length (drop (length done) (given t))) = length-take l.part (drop (length done) (given t)) in
     let short : take (length x) (drop (length done) (given t)) ≡ x = ap (λ n. take n (drop (length done) (given t))) size ∙ take_min l.part (drop (length done) (given t)) in
-    joined_push (pieces l t) x
+    joined-push (pieces l t) x
     ∙ ap (λ xs. xs ++ x) (joined_front l t) ∙ ap (λ xs. take (length done) (given t) ++ xs) (sym short)
     ∙ sym (take-add (length done) (length x) (given t))
-    ∙ ap (λ n. take n (given t)) (sym (ap length (joined_push (pieces l t) x) ∙ length-append done x))
+    ∙ ap (λ n. take n (given t)) (sym (ap length (joined-push (pieces l t) x) ∙ length-append done x))
 joined_front l (t ▷ Resent p) = joined_front l t
 joined_front l (t ▷ ToldPart p) = joined_front l t
 joined_front l (t ▷ ToldTransmission j) = joined_front l t
@@ -62,7 +63,7 @@ pieces_sum l (t ▷ Cut) =
     let up : cuts t + 1 ≡ suc (cuts t) = omega arith in
     let old = sum_alike (λ p. length (piece l (t ▷ Cut) p)) (λ p. length (piece l t p)) (cuts t) (λ p less. ap length (get_or_append_left (pieces l t) (x ∷ []) [] p (omega (arith, less, pieces_count l t)))) in
     let new : length (piece l (t ▷ Cut) (cuts t)) ≡ length x = ap length (get_or_push (pieces l t) x [] (cuts t) (pieces_count l t)) in
-    ap length (joined_push (pieces l t) x) ∙ length-append (joined (pieces l t)) x
+    ap length (joined-push (pieces l t) x) ∙ length-append (joined (pieces l t)) x
     ∙ (let e : length (joined (pieces l t)) + length x ≡ sum_of (λ p. length (piece l (t ▷ Cut) p)) (cuts t) + length (piece l (t ▷ Cut) (cuts t)) = omega (arith, pieces_sum l t, old, new) in e)
     ∙ sym (ap (sum_of (λ p. length (piece l (t ▷ Cut) p))) up)
 pieces_sum l (t ▷ Resent p) = pieces_sum l t

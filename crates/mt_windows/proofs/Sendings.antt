@@ -5,12 +5,13 @@ use Rattle.std.proofs.lemmas.Bool.{cases_lt, cases_eq}
 use Rattle.std.proofs.lemmas.Bool.Decides.{nat_tests}
 use Rattle.mt_base.specs.Trace.{Trace, ◌▷◌}
 use Rattle.mt_base.specs.Writing.{joined}
+use Rattle.mt_base.proofs.Fill.{joined-push}
 use Rattle.mt_windows.specs.declared.flight.Flight.{Flight}
 use Rattle.mt_windows.specs.FlightView.{flight_at, slot_at, bytes_in}
 use Rattle.mt_windows.specs.Sending.Act.{Cut, Resent}
 use Rattle.mt_windows.specs.Sending.{Act, given, cuts, pieces, waiting, piece, part_of, transmissions, settled, is_open, told, latest, earliest, queued, next_piece}
 use Rattle.mt_windows.specs.SendingView.{Outbox, IsSoundOut, IsFlight, Remembers, Flying, Sends, limits, queued_of, may_cut_of, is_unsettled}
-use Rattle.mt_windows.proofs.Counts.{joined_push, pieces_count}
+use Rattle.mt_windows.proofs.Counts.{pieces_count}
 use Rattle.mt_windows.proofs.InFlight.{open_of, bytes_set, queued_from, queued_is, remembers_more, heard_more}
 
 -- ---- a part is cut
@@ -39,7 +40,7 @@ cut_step w first t x xs ys fs h le room x_is xs_is fs_is ys_is =
     waits : xs ≡ waiting limits (t ▷ Cut)
     waits =
         xs_is ∙ ap (drop (length x)) h.waiting_is ∙ drop-drop (length x) (length (joined (pieces limits t))) (given t)
-        ∙ ap (λ n. drop n (given t)) (sym (ap length (joined_push (pieces limits t) (next_piece limits t)) ∙ length-append (joined (pieces limits t)) (next_piece limits t) ∙ ap (λ y. length (joined (pieces limits t)) + length y) (sym x_is)))
+        ∙ ap (λ n. drop n (given t)) (sym (ap length (joined-push (pieces limits t) (next_piece limits t)) ∙ length-append (joined (pieces limits t)) (next_piece limits t) ∙ ap (λ y. length (joined (pieces limits t)) + length y) (sym x_is)))
 
     old_flight : (k : ℕ) → (k ≡ w.cut - w.base → ⊥) → flight_at fs k ≡ flight_at w.flights k
     old_flight k ne = ap (λ zs. flight_at zs k) fs_is ∙ get_or-set_other w.flights (w.cut - w.base) k (record { slot = Some x; earliest = w.made; latest = w.made }) (record { slot = None; earliest = 0; latest = 0 }) ne

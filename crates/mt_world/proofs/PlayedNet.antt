@@ -4,7 +4,7 @@ use Rattle.std.specs.Prelude.{slice_get}
 use Rattle.std.specs.List.{AllByRecursion}
 use Rattle.std.proofs.lemmas.List.{take_all, drop-drop, length_push}
 use Rattle.std.proofs.lemmas.List.Elements.{All-from_recursion, All-drop}
-use Rattle.std.proofs.lemmas.Bool.{ltb-false, leb-false, leb-true}
+use Rattle.std.proofs.lemmas.Bool.{not-false, ltb-false, leb-false, leb-true}
 use Rattle.byteorder.specs.Endian.{little_bytes}
 use Rattle.mt_base.specs.declared.kinds.Role.{Role}
 use Rattle.mt_base.specs.declared.kinds.Role.TheVariants.{Server, Client}
@@ -106,10 +106,6 @@ not_refused_send : (cause : Option SendRefusal) → refused_send cause ≡ None 
 not_refused_send None h = refl
 not_refused_send (Some cause) h = cc
 
-is_true : (b : Bool) → not b ≡ false → b ≡ true
-is_true true h = refl
-is_true false h = cc
-
 open_good : (w : Trace (Role × Entry)) (name : List ℕ) → IsGood w → open_refusal_of (acts_of Server w) name ≡ None → IsGood (w ▷ (Server, Opened (length (names (acts_of Server w)) + 1) name))
 open_good w name g none =
     let outer = no_cause _ _ none in
@@ -117,7 +113,7 @@ open_good w name g none =
     let named = name_from_no_fault name (no_fault (name_fault name) inner.1) in
     let first : length (names (acts_of Server w)) < 1 = leb-false 1 (length (names (acts_of Server w))) (when_not _ _ outer.1) in
     record {
-      server = (refl, refl, omega (arith, first), named, is_true (is_ready (acts_of Server w)) (when_not _ _ inner.0), g.server);
+      server = (refl, refl, omega (arith, first), named, not-false (is_ready (acts_of Server w)) (when_not _ _ inner.0), g.server);
       client = g.client;
       to_server = g.to_server;
       to_client = g.to_client;
@@ -149,7 +145,7 @@ may_send : (side : Role) (t server : Trace Entry) (id : ℕ) (message : List ℕ
     → when (not (is_made id (past Server server).acts)) step.UnknownChannel or_else refused_send (send_refusal_of (past side t).acts id message) ≡ None → MaySend side t server id message
 may_send side t server id message h none =
     let outer = no_cause _ _ none in
-    let made = second_true _ _ (is_true _ (when_not _ _ outer.0)) in
+    let made = second_true _ _ (not-false _ (when_not _ _ outer.0)) in
     let inner = no_cause _ _ (not_refused_send (send_refusal_of (past side t).acts id message) outer.1) in
     let within : id ≤ length (names (past Server server).acts) = leb-true id (length (names (past Server server).acts)) made in
     record {

@@ -9,7 +9,7 @@ use Rattle.byteorder.specs.Numbers.{little_number-reads_back}
 use Rattle.mt_base.specs.declared.kinds.Kind.{Kind}
 use Rattle.mt_base.specs.declared.kinds.Kind.TheVariants.{Reliable, Lossy}
 use Rattle.mt_base.specs.Writing.{joined}
-use Rattle.mt_base.proofs.Numbers.{IsBytes}
+use Rattle.mt_base.proofs.Numbers.{IsBytes, zero_bytes}
 use Rattle.mt_base.proofs.Fields.{little_or, block_or}
 use Rattle.tunnel_pdus.specs.declared.kind.FrameKind.{FrameKind}
 use Rattle.tunnel_pdus.specs.declared.kind.FrameKind.TheVariants as frame
@@ -20,13 +20,14 @@ use Rattle.tunnel_pdus.specs.declared.part.TunnelRefusal.{TunnelRefusal}
 use Rattle.tunnel_pdus.specs.declared.stop.Stop.{Stop}
 use Rattle.tunnel_pdus.specs.declared.stop.Stop.TheVariants as stop
 use Rattle.tunnel_pdus.specs.Value.{Frame, Request, Response, Channel, AreBytes, IsFrameLength, FitsFrame, kind_code, protocol_code, frame_layout, frame_fields}
-use Rattle.tunnel_pdus.specs.Reading.{◌>>=◌, refused, told, kind_of, named_kind, kind_at, checked_body, frame_length_at, protocol_of, cookie_at, request_at, response_at, channel_at, body_at, frame_at, frame_reading}
+use Rattle.mt_base.specs.Parts.{◌>>=◌}
+use Rattle.tunnel_pdus.specs.Reading.{refused, told, kind_of, named_kind, kind_at, checked_body, frame_length_at, protocol_of, cookie_at, request_at, response_at, channel_at, body_at, frame_at, frame_reading}
 use Rattle.tunnel_pdus.specs.Layout.{SpellsFrame}
 use Rattle.tunnel_pdus.specs.Faults.{WrongBody, body_long, request_body, response_body, channel_body, RefusedFrame, bad_kind, bad_body_length, bad_protocol}
 use Rattle.tunnel_pdus.specs.Streams.{Begins}
 use Rattle.tunnel_pdus.proofs.Grammars.{Grammar, Decided, whole, faulty, waiting}
 use Rattle.tunnel_pdus.proofs.Windows.{window_of, window_cut, byte_of, byte_cut, number_of, number_cut}
-use Rattle.tunnel_pdus.proofs.Headers.{zeros_are, high}
+use Rattle.tunnel_pdus.proofs.Headers.{high}
 
 -- ---- what a chain of reads tells
 
@@ -241,14 +242,14 @@ begins_response rest bytes enough good is = elim (little_or 4 rest good) [
   | inl few ↦ absurd (omega arith)
   | inr id ↦ elim (little_or 4 id.rest id.bytes_behind) [
     | inl few ↦ absurd (omega (arith, ap length id.bytes_are))
-    | inr hr ↦ begins (Response id.value hr.value) (0 ∷ 0 ∷ []) hr.rest bytes (refl, zeros_are 2) (id.good, hr.good)
+    | inr hr ↦ begins (Response id.value hr.value) (0 ∷ 0 ∷ []) hr.rest bytes (refl, zero_bytes 2) (id.good, hr.good)
         (is ∙ ap (λ t. 2 ∷ (little_bytes 2 8 ++ t)) (id.bytes_are ∙ ap (λ t. little_bytes 4 id.value ++ t) hr.bytes_are))
   ]
 ]
 
 begins_channel : (n : ℕ) (pdu rest bytes : List ℕ) → IsFrameLength frame.Channel n → length pdu ≡ n → IsBytes pdu → bytes ≡ 3 ∷ (little_bytes 2 n ++ (pdu ++ rest)) → B bytes
 begins_channel n pdu rest bytes known long good is =
-    begins (Channel pdu) (0 ∷ 0 ∷ []) rest bytes (refl, zeros_are 2) (omega (arith, known.0), omega (arith, known.1), good)
+    begins (Channel pdu) (0 ∷ 0 ∷ []) rest bytes (refl, zero_bytes 2) (omega (arith, known.0), omega (arith, known.1), good)
     (is ∙ ap (λ m. 3 ∷ (little_bytes 2 m ++ (pdu ++ rest))) (sym long) ∙ ap (λ t. 3 ∷ (little_bytes 2 (length pdu) ++ t)) (sym (append_assoc pdu [] rest)))
 
 -- the rest of a request is wanted
@@ -263,9 +264,9 @@ wait_cookie id k rest bytes small few good is =
           (request_front id k (rest ++ more) (bytes ++ more) small (ap (λ t. t ++ more) is) ∙ ap (λ r. r >>= λ f. Ok (Request id k (drop 2 f), 27)) (window_cut (bytes ++ more) 9 18 less));
       possible = (
         zeros,
-        zeros_are (18 - length rest),
+        zero_bytes (18 - length rest),
         omega (arith, ap length all, long),
-        inl (begins_request id k (rest ++ zeros) (bytes ++ zeros) small (omega arith) (All-append (λ b. b < 256) rest zeros good (zeros_are (18 - length rest))) all),
+        inl (begins_request id k (rest ++ zeros) (bytes ++ zeros) small (omega arith) (All-append (λ b. b < 256) rest zeros good (zero_bytes (18 - length rest))) all),
       );
     })
 
@@ -331,9 +332,9 @@ by_request rest bytes good is = elim (cases_lt (length rest) 6) [
           more_is = λ more less. more_at (bytes ++ more) 9 (at_body frame.Request 24 (rest ++ more) (bytes ++ more) refl (ap (λ t. t ++ more) is) ∙ request_cut (bytes ++ more) less);
           possible = (
             more,
-            All-append (λ b. b < 256) zeros (255 ∷ []) (zeros_are (5 - length rest)) (All-cons (λ b. b < 256) 255 [] (omega arith) (All-nil (λ b. b < 256))),
+            All-append (λ b. b < 256) zeros (255 ∷ []) (zero_bytes (5 - length rest)) (All-cons (λ b. b < 256) 255 [] (omega arith) (All-nil (λ b. b < 256))),
             omega (arith, ap length all, length-append five (255 ∷ []), long),
-            inr (wrong_protocol five (bytes ++ more) long (All-append (λ b. b < 256) rest zeros good (zeros_are (5 - length rest))) all),
+            inr (wrong_protocol five (bytes ++ more) long (All-append (λ b. b < 256) rest zeros good (zero_bytes (5 - length rest))) all),
           );
         })
 
@@ -353,9 +354,9 @@ by_response rest bytes good is = elim (cases_lt (length rest) 8) [
         more_is = λ more less. more_at (bytes ++ more) 11 (at_body frame.Response 8 (rest ++ more) (bytes ++ more) refl (ap (λ t. t ++ more) is) ∙ response_cut (bytes ++ more) less);
         possible = (
           zeros,
-          zeros_are (8 - length rest),
+          zero_bytes (8 - length rest),
           omega (arith, ap length all, long),
-          inl (begins_response (rest ++ zeros) (bytes ++ zeros) (omega arith) (All-append (λ b. b < 256) rest zeros good (zeros_are (8 - length rest))) all),
+          inl (begins_response (rest ++ zeros) (bytes ++ zeros) (omega arith) (All-append (λ b. b < 256) rest zeros good (zero_bytes (8 - length rest))) all),
         );
       })
       )
@@ -381,9 +382,9 @@ by_channel n rest bytes known good is = elim (cases_lt (length rest) n) [
         more_is = λ more less. more_at (bytes ++ more) (3 + n) (at_body frame.Channel n (rest ++ more) (bytes ++ more) known (ap (λ t. t ++ more) is) ∙ channel_cut n (bytes ++ more) less);
         possible = (
           zeros,
-          zeros_are (n - length rest),
+          zero_bytes (n - length rest),
           omega (arith, ap length all, long),
-          inl (begins_channel n (rest ++ zeros) [] (bytes ++ zeros) known long (All-append (λ b. b < 256) rest zeros good (zeros_are (n - length rest)))
+          inl (begins_channel n (rest ++ zeros) [] (bytes ++ zeros) known long (All-append (λ b. b < 256) rest zeros good (zero_bytes (n - length rest)))
               (all ∙ ap (λ t. 3 ∷ (little_bytes 2 n ++ t)) (sym (append-nil (rest ++ zeros))))),
         );
       })
@@ -443,7 +444,7 @@ decides : (bytes : List ℕ) → IsBytes bytes → D bytes
 decides [] good = waiting 1 (record {
   longer = omega arith;
   more_is = λ more few. more_at more 1 (at_first more (Err (stop.More 1)) (first_cut more few));
-  possible = (0 ∷ [], zeros_are 1, refl, inr (record { at = 0; reason = reason.BadKind }, bad_kind 0 [] refl (λ e. omega arith) (λ e. omega arith) (λ e. omega arith) refl));
+  possible = (0 ∷ [], zero_bytes 1, refl, inr (record { at = 0; reason = reason.BadKind }, bad_kind 0 [] refl (λ e. omega arith) (λ e. omega arith) (λ e. omega arith) refl));
 })
 decides (x ∷ rest) good =
     let behind = All-tail (λ b. b < 256) x rest good in
@@ -464,7 +465,7 @@ grammar = record { reads = reads; refuses = refuses; stays = stays; some = some;
 -- ---- what a writer spells
 
 pub written_spells : (f : Frame) → FitsFrame f → SpellsFrame (joined (frame_fields f)) f
-written_spells f fits = record { reserved = 0 ∷ 0 ∷ []; reserved_are = (refl, zeros_are 2); fits = fits; text_is = refl }
+written_spells f fits = record { reserved = 0 ∷ 0 ∷ []; reserved_are = (refl, zero_bytes 2); fits = fits; text_is = refl }
 
 pub written_read : (f : Frame) (rest : List ℕ) → FitsFrame f → frame_reading (joined (frame_fields f) ++ rest) ≡ Ok (Whole f (length (joined (frame_fields f))))
 written_read f rest fits = reads f (joined (frame_fields f)) rest (written_spells f fits)

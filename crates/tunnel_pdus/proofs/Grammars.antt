@@ -3,6 +3,7 @@ use Rattle.std.proofs.Common.{◌≡◌, inl, inr, ℕ, zero, suc, ◌<◌, ◌�
 use Rattle.std.proofs.lemmas.Bool.{cases_order}
 use Rattle.std.proofs.lemmas.List.{take_at, drop_at}
 use Rattle.std.proofs.lemmas.List.Elements.{All-from_get_or}
+use Rattle.mt_base.proofs.Lists.{nothing}
 use Rattle.mt_base.proofs.Numbers.{IsBytes}
 use Rattle.mt_base.proofs.Fields.{not_both, ok_is, bytes_after}
 use Rattle.tunnel_pdus.specs.declared.part.Part.{Part}
@@ -137,10 +138,6 @@ refusal_stays g bytes more r good is = g.refuses r (bytes ++ more) (g.stays r by
 -- a value and its length are those that the bytes begin with
 whole_is : {V : Type 0} (v w : V) (m n : ℕ) → Whole v m ≡ Whole w n → (v ≡ w) × (m ≡ n)
 whole_is v w m n e = (cc, cc)
-
-nothing : (xs : List ℕ) → length xs ≡ 0 → xs ≡ []
-nothing [] h = refl
-nothing (x ∷ xs) h = absurd (omega arith)
 
 -- no spelling is a proper prefix of another
 pub no_prefix : {V R : Type 0} {read : List ℕ → Result (Part V) R} {Spells : List ℕ → V → Type 0} {Fault : List ℕ → R → Type 0} → Grammar read Spells Fault

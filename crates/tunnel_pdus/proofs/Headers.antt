@@ -1,12 +1,12 @@
 -- The header of a tunnel PDU: read where it keeps its rules.
-use Rattle.std.proofs.Common.{◌≡◌, ◌⊎◌, inl, inr, ℕ, zero, suc, ◌+◌, ◌%◌, ◌/◌, ◌^◌, ◌<◌, ◌≤◌, eqb, ltb, cond, List, [], ◌∷◌, ◌++◌, length, drop, replicate, Result, Ok, Err, refl, sym, ap, ◌∙◌, arith, append_assoc, append-nil, length-append}
+use Rattle.std.proofs.Common.{◌≡◌, ◌⊎◌, inl, inr, ℕ, ◌+◌, ◌%◌, ◌/◌, ◌^◌, ◌<◌, ◌≤◌, eqb, ltb, cond, List, [], ◌∷◌, ◌++◌, length, drop, Result, Ok, Err, refl, sym, ap, ◌∙◌, arith, append_assoc, append-nil, length-append}
 use Rattle.std.proofs.lemmas.Bool.{lt-ltb, le-ltb, eq-eqb, ne_eqb, cases_eq, cases_lt}
 use Rattle.std.proofs.lemmas.List.{drop_at}
-use Rattle.std.proofs.lemmas.List.Elements.{All-cons, All-nil}
 use Rattle.byteorder.specs.Endian.{little_bytes}
 use Rattle.byteorder.specs.Numbers.{little_number-reads_back}
 use Rattle.mt_base.specs.Writing.{joined}
-use Rattle.mt_base.proofs.Numbers.{IsBytes}
+use Rattle.mt_base.proofs.Lists.{nothing}
+use Rattle.mt_base.proofs.Numbers.{IsBytes, zero_bytes}
 use Rattle.mt_base.proofs.Fields.{block_or, little_or}
 use Rattle.tunnel_pdus.specs.declared.action.Action.{Action}
 use Rattle.tunnel_pdus.specs.declared.action.Action.TheVariants as action
@@ -15,7 +15,8 @@ use Rattle.tunnel_pdus.specs.declared.part.TunnelReason.TheVariants as reason
 use Rattle.tunnel_pdus.specs.declared.stop.Stop.{Stop}
 use Rattle.tunnel_pdus.specs.declared.stop.Stop.TheVariants as stop
 use Rattle.tunnel_pdus.specs.Value.{Pdu, CreateRequest, CreateResponse, Data, IsLengthOf, AreBytes, FitsPdu, action_code, pdu_action, payload, payload_length}
-use Rattle.tunnel_pdus.specs.Reading.{◌>>=◌, refused, named, action_of, action_at, checked, length_at, header_at, sub_headers_at, pdu_in, payload_at, pdu_at}
+use Rattle.mt_base.specs.Parts.{◌>>=◌}
+use Rattle.tunnel_pdus.specs.Reading.{refused, named, action_of, action_at, checked, length_at, header_at, sub_headers_at, pdu_in, payload_at, pdu_at}
 use Rattle.tunnel_pdus.specs.Layout.{headed}
 use Rattle.tunnel_pdus.specs.Faults.{WrongPayload, request_length, response_length, data_length}
 use Rattle.tunnel_pdus.proofs.Windows.{byte_of, byte_cut, number_of, number_cut}
@@ -157,15 +158,6 @@ pub record Payload (a : Action) (n : ℕ) (bytes : List ℕ) : Type 0 where
   pub fits : FitsPdu pdu
   pub bytes_are : bytes ≡ joined (payload reserved pdu)
 
-nothing : (xs : List ℕ) → length xs ≡ 0 → xs ≡ []
-nothing [] h = refl
-nothing (x ∷ xs) h = absurd (omega arith)
-
--- zeros are bytes
-pub zeros_are : (k : ℕ) → IsBytes (replicate k 0)
-zeros_are zero = All-nil (λ b. b < 256)
-zeros_are (suc k) = All-cons (λ b. b < 256) 0 (replicate k 0) (omega arith) (zeros_are k)
-
 -- a length that is above every limit
 pub high : (y : ℕ) → y < 256 → little_bytes 2 (65280 + y) ≡ y ∷ 255 ∷ []
 high y small =
@@ -174,7 +166,7 @@ high y small =
     ap (λ x. x ∷ ((65280 + y) / 256 % 256) ∷ []) low ∙ ap (λ x. y ∷ x ∷ []) top
 
 zeros : AreBytes 4 (0 ∷ 0 ∷ 0 ∷ 0 ∷ [])
-zeros = (refl, zeros_are 4)
+zeros = (refl, zero_bytes 4)
 
 pub payload_or : (a : Action) (n : ℕ) (bytes : List ℕ) → IsLengthOf a n → length bytes ≡ n → IsBytes bytes → Payload a n bytes
 payload_or action.CreateRequest n bytes h long good = elim (little_or 4 bytes good) [

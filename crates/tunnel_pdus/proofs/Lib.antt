@@ -1,4 +1,3 @@
-pub mod Spaces
 pub mod Grammars
 pub mod Windows
 pub mod SubHeaders

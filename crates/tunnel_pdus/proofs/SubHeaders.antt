@@ -6,7 +6,8 @@ use Rattle.std.proofs.lemmas.List.Elements.{All-head, All-tail}
 use Rattle.mt_base.specs.Writing.{joined}
 use Rattle.tunnel_pdus.specs.declared.part.TunnelReason.TheVariants as reason
 use Rattle.tunnel_pdus.specs.declared.stop.Stop.{Stop}
-use Rattle.tunnel_pdus.specs.Reading.{◌>>=◌, refused, byte, sub_header_at, sub_headers_within, sub_headers_at}
+use Rattle.mt_base.specs.Parts.{◌>>=◌}
+use Rattle.tunnel_pdus.specs.Reading.{refused, byte, sub_header_at, sub_headers_within, sub_headers_at}
 use Rattle.tunnel_pdus.specs.Layout.{IsSubHeader}
 use Rattle.tunnel_pdus.specs.declared.stop.Stop.TheVariants as stop
 use Rattle.tunnel_pdus.specs.Faults.{WrongSubHeader, sub_length, sub_type}

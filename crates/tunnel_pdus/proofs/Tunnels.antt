@@ -7,7 +7,7 @@ use Rattle.std.proofs.lemmas.List.{take-append-drop, length-take-le, length-repl
 use Rattle.std.proofs.lemmas.List.Elements.{All-append, All-cons, All-nil, All-head, All-tail, All-take, All-drop}
 use Rattle.byteorder.specs.Endian.{little_bytes}
 use Rattle.mt_base.specs.Writing.{joined}
-use Rattle.mt_base.proofs.Numbers.{IsBytes}
+use Rattle.mt_base.proofs.Numbers.{IsBytes, zero_bytes}
 use Rattle.mt_base.proofs.Fields.{little_or}
 use Rattle.mt_base.proofs.Fill.{joined-append}
 use Rattle.tunnel_pdus.specs.declared.action.Action.{Action}
@@ -17,14 +17,15 @@ use Rattle.tunnel_pdus.specs.declared.part.TunnelReason.TheVariants as reason
 use Rattle.tunnel_pdus.specs.declared.part.TunnelRefusal.{TunnelRefusal}
 use Rattle.tunnel_pdus.specs.declared.stop.Stop.TheVariants as stop
 use Rattle.tunnel_pdus.specs.Value.{Pdu, IsLengthOf, FitsPdu, pdu_fields, action_code, pdu_action, payload, payload_length}
-use Rattle.tunnel_pdus.specs.Reading.{◌>>=◌, refused, told, action_at, length_at, header_at, sub_headers_at, pdu_in, pdu_at, reading}
+use Rattle.mt_base.specs.Parts.{◌>>=◌}
+use Rattle.tunnel_pdus.specs.Reading.{refused, told, action_at, length_at, header_at, sub_headers_at, pdu_in, pdu_at, reading}
 use Rattle.tunnel_pdus.specs.Layout.{Spells, IsSubHeader, headed}
 use Rattle.tunnel_pdus.specs.Faults.{Refused, bad_action, bad_flags, bad_length, bad_header, bad_sub_header, WrongSubHeader, sub_length, sub_type}
 use Rattle.tunnel_pdus.specs.Streams.{Begins}
 use Rattle.tunnel_pdus.proofs.Grammars.{Grammar, Decided, whole, faulty, waiting}
 use Rattle.tunnel_pdus.proofs.Windows.{window_of, window_cut, byte_cut}
 use Rattle.tunnel_pdus.proofs.SubHeaders.{sub_done, sub_pass, sub_stop, sub_reads, sub_type_cut, sub_length_cut, sub_wrong, subs_pass}
-use Rattle.tunnel_pdus.proofs.Headers.{action_unknown, action_flags, is_action, no_action, has_flags, first_or, length_or, length_reads, length_cut, checked_wrong, too_big, header_reads, header_cut, from_header, at_first, at_length, at_header, past_header, payload_or, payload_reads, payload_long, payload_known, zeros_are, high}
+use Rattle.tunnel_pdus.proofs.Headers.{action_unknown, action_flags, is_action, no_action, has_flags, first_or, length_or, length_reads, length_cut, checked_wrong, too_big, header_reads, header_cut, from_header, at_first, at_length, at_header, past_header, payload_or, payload_reads, payload_long, payload_known, high}
 
 -- ---- what a chain of reads tells
 
@@ -167,7 +168,7 @@ walked_part a n end subs bytes k type content known small good is type_known fit
     record {
       known = known;
       header_fits = small;
-      subs_are = more_subs subs sub good (sub_is k type inside long type_known (All-append (λ b. b < 256) content fill good_content (zeros_are (k - length content))));
+      subs_are = more_subs subs sub good (sub_is k type inside long type_known (All-append (λ b. b < 256) content fill good_content (zero_bytes (k - length content))));
       fits = omega arith;
       comes = λ more.
           let longer = longer_is a n end subs bytes ((k + 2) ∷ type ∷ content) more is in
@@ -178,7 +179,7 @@ walked_part a n end subs bytes k type content known small good is type_known fit
           (sub_reads (front ++ joined subs) (content ++ more) (bytes ++ more) at end (k + 2) type longer (omega (arith, length-append front (joined subs))) type_known (omega arith) fits)
           ∙ ap (λ p. sub_headers_at p end (bytes ++ more)) place);
       fill = fill;
-      fill_are = zeros_are (k - length content);
+      fill_are = zero_bytes (k - length content);
       filled = longer_is a n end subs bytes ((k + 2) ∷ type ∷ content) fill is
           ∙ ap (λ t. headed (action_code a) n end t) (sym (joined_more subs sub) ∙ sym (append-nil (joined (subs ++ (sub ∷ [])))));
     }
@@ -195,7 +196,7 @@ wait_sub a n end subs bytes w within =
           (w.comes more ∙ ap (from_header (bytes ++ more) a n) (sub_stop at end (bytes ++ more) (stop.More (at + 1)) within (sub_length_cut (bytes ++ more) at end few)));
       possible = (
         w.fill ++ (0 ∷ []),
-        All-append (λ b. b < 256) w.fill (0 ∷ []) w.fill_are (zeros_are 1),
+        All-append (λ b. b < 256) w.fill (0 ∷ []) w.fill_are (zero_bytes 1),
         omega (arith, ap length all, length-append (joined subs) (0 ∷ [])),
         inr (record { at = at; reason = reason.BadSubHeader }, bad_sub_header a n end subs (0 ∷ []) w.known w.subs_are within all (sub_length 0 [] refl (inl (omega arith))) refl),
       );
@@ -264,10 +265,10 @@ wait_payload a n end subs bytes part w good ends few short =
           (w.comes more ∙ ap (from_header (bytes ++ more) a n) (sub_done at end (bytes ++ more) ends) ∙ ap (λ r. r >>= λ f. Ok (pdu_in a f, at + n)) (window_cut (bytes ++ more) at n less));
       possible = (
         w.fill ++ zeros,
-        All-append (λ b. b < 256) w.fill zeros w.fill_are (zeros_are (n - length part)),
+        All-append (λ b. b < 256) w.fill zeros w.fill_are (zero_bytes (n - length part)),
         omega (arith, ap length all, length-append (joined subs) field, long),
         inl (begin_at a n end subs (bytes ++ (w.fill ++ zeros)) field [] w.known w.header_fits w.subs_are same long
-            (All-append (λ b. b < 256) part zeros good (zeros_are (n - length part))) (all ∙ ap (λ t. headed (action_code a) n end (joined subs ++ t)) (sym (append-nil field)))),
+            (All-append (λ b. b < 256) part zeros good (zero_bytes (n - length part))) (all ∙ ap (λ t. headed (action_code a) n end (joined subs ++ t)) (sym (append-nil field)))),
       );
     })
 
@@ -388,7 +389,7 @@ by_header a n [] bytes known is good =
       longer = omega (arith, ap length is);
       more_is = λ more few. more_at (bytes ++ more) 4
           (at_header a n more (bytes ++ more) (Err (stop.More 4)) known (ap (λ t. t ++ more) is) (header_cut (bytes ++ more) few));
-      possible = (0 ∷ [], zeros_are 1, ap length all, inr (record { at = 3; reason = reason.BadHeaderLength }, bad_header a n 0 [] known (omega arith) all refl));
+      possible = (0 ∷ [], zero_bytes 1, ap length all, inr (record { at = 3; reason = reason.BadHeaderLength }, bad_header a n 0 [] known (omega arith) all refl));
     })
 by_header a n (end ∷ rest) bytes known is good = elim (cases_lt end 4) [
   | inl few ↦ faulty _ (bad_header a n end rest known few is refl)
@@ -434,7 +435,7 @@ written_spells pdu fits = record {
   reserved = 0 ∷ 0 ∷ 0 ∷ 0 ∷ [];
   subs_are = All-nil IsSubHeader;
   header_fits = omega arith;
-  reserved_are = (refl, zeros_are 4);
+  reserved_are = (refl, zero_bytes 4);
   fits = fits;
   text_is = refl;
 }
@@ -445,6 +446,6 @@ written_read pdu rest fits = reads pdu (joined (pdu_fields pdu)) rest (written_s
 -- no spelling is shorter
 pub shortest : (text : List ℕ) (pdu : Pdu) → Spells text pdu → length (joined (pdu_fields pdu)) ≤ length text
 shortest text pdu s =
-    let written = payload_long (0 ∷ 0 ∷ 0 ∷ 0 ∷ []) pdu (refl, zeros_are 4) s.fits in
+    let written = payload_long (0 ∷ 0 ∷ 0 ∷ 0 ∷ []) pdu (refl, zero_bytes 4) s.fits in
     let field : List ℕ = joined (payload s.reserved pdu) in
     omega (arith, ap length s.text_is, written, payload_long s.reserved pdu s.reserved_are s.fits, length-append (joined s.subs) field)

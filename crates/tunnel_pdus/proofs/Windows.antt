@@ -6,7 +6,8 @@ use Rattle.byteorder.specs.Endian.{little_bytes, little_number}
 use Rattle.byteorder.specs.Numbers.{little_number-reads_back}
 use Rattle.tunnel_pdus.specs.declared.stop.Stop.{Stop}
 use Rattle.tunnel_pdus.specs.declared.stop.Stop.TheVariants as stop
-use Rattle.tunnel_pdus.specs.Reading.{◌>>=◌, window, byte, number}
+use Rattle.mt_base.specs.Parts.{◌>>=◌}
+use Rattle.tunnel_pdus.specs.Reading.{window, byte, number}
 
 pub window_of : (front field rest bytes : List ℕ) (at n : ℕ) → bytes ≡ front ++ (field ++ rest) → length front ≡ at → length field ≡ n → window at n bytes ≡ Ok field
 window_of front field rest bytes at n is place long =

@@ -4,5 +4,3 @@ pub mod Faults
 pub mod Streams
 pub mod Reading
 pub mod Views
-pub mod Space
-pub mod RoomView

@@ -4,6 +4,7 @@ use Rattle.std.specs.Prelude.{◌≡◌, ℕ, zero, suc, ◌+◌, ◌-◌, ◌/�
 use Rattle.byteorder.specs.Endian.{little_number}
 use Rattle.mt_base.specs.declared.kinds.Kind.{Kind}
 use Rattle.mt_base.specs.declared.kinds.Kind.TheVariants.{Reliable, Lossy}
+use Rattle.mt_base.specs.Parts.{◌>>=◌}
 use Rattle.tunnel_pdus.specs.declared.action.Action.{Action}
 use Rattle.tunnel_pdus.specs.declared.action.Action.TheVariants as action
 use Rattle.tunnel_pdus.specs.declared.kind.FrameKind.{FrameKind}
@@ -16,12 +17,6 @@ use Rattle.tunnel_pdus.specs.declared.part.TunnelRefusal.{TunnelRefusal}
 use Rattle.tunnel_pdus.specs.declared.stop.Stop.{Stop}
 use Rattle.tunnel_pdus.specs.declared.stop.Stop.TheVariants as stop
 use Rattle.tunnel_pdus.specs.Value.{Pdu, CreateRequest, CreateResponse, Data, Frame, Request, Response, Channel}
-
-infixl 10 ◌>>=◌
--- the next field, where the one before it was read
-abbrev pub ◌>>=◌ : {A B : Type 0} → Result A Stop → (A → Result B Stop) → Result B Stop
-(Ok x) >>= next = next x
-(Err e) >>= next = Err e
 
 -- the stop at a fault
 abbrev pub refused : ℕ → TunnelReason → Stop

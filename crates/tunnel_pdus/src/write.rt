@@ -8,9 +8,9 @@ ghost use Rattle.tunnel_pdus.specs.Views.{pdu_of, frame_of};
 
 use crate::action::{CREATE_REQUEST, CREATE_RESPONSE, DATA};
 use crate::kind::{CHANNEL, REQUEST, RESPONSE, protocol_code};
-use crate::room::Room;
+use crate::room::{pass_frame, pass_pdu};
 use crate::value::{MainFrame, TunnelPdu};
-use mt_base::{NoRoom, Out};
+use mt_base::{NoRoom, Out, Room};
 
 /// The length of a tunnel header without sub-headers.
 const HEADER: u8 = 4;
@@ -79,7 +79,7 @@ fn find_room(pdu: &TunnelPdu<'_>, out: &[u8]) -> Result<(), NoRoom>
     ensures found { OnOk result (length (joined (pdu_fields (pdu_of pdu.now))) ≤ length out.now) }
     ensures refused { IfErr result (λ e. puts (pdu_fields (pdu_of pdu.now)) (record { before = []; after = out.now }) ≡ Err e) }
 {
-    Room::new(out.len()).pass_pdu(pdu)
+    pass_pdu(&mut Room::new(out.len()), pdu)
 }
 
 /// Whether all fields of a main frame find a place.
@@ -87,7 +87,7 @@ fn find_frame_room(frame: &MainFrame<'_>, out: &[u8]) -> Result<(), NoRoom>
     ensures found { OnOk result (length (joined (frame_fields (frame_of frame.now))) ≤ length out.now) }
     ensures refused { IfErr result (λ e. puts (frame_fields (frame_of frame.now)) (record { before = []; after = out.now }) ≡ Err e) }
 {
-    Room::new(out.len()).pass_frame(frame)
+    pass_frame(&mut Room::new(out.len()), frame)
 }
 
 /// Writes a tunnel PDU at the front of `out`, and gives the number of its bytes (MS-RDPEMT section

@@ -1,7 +1,7 @@
 -- The states of a vector's elements, as a test.
-use Rattle.std.proofs.Common.{◌≡◌, ℕ, ◌/◌, ◌<◌, inl, inr, Bool, true, false, not, eqb, List, length, take, get_or, Some, None, refl, ap}
+use Rattle.std.proofs.Common.{◌≡◌, ℕ, ◌/◌, ◌<◌, inl, inr, Bool, true, false, not, eqb, List, length, take, get_or, Some, None, ap}
 use Rattle.std.specs.List.{All, position_from}
-use Rattle.std.proofs.lemmas.Bool.{eq-eqb, ne_eqb, eqb-true, or_left, or_right, or_from, or_cases}
+use Rattle.std.proofs.lemmas.Bool.{not-false, eq-eqb, ne_eqb, eqb-true, or_left, or_right, or_from, or_cases}
 use Rattle.ack_vector.specs.Elements.{IsGood}
 use Rattle.mt_base.proofs.Firsts.{NonePasses, none_at, found_at}
 use Rattle.udp1_packets.specs.Reading.{is_state}
@@ -17,12 +17,8 @@ good_passes_not e (inr three) = ap not (or_right (eqb (e / 64) 0) (eqb (e / 64) 
 pub bad_passes : (e : ℕ) → (IsGood e → ⊥) → is_wrong e ≡ true
 bad_passes e bad = ap not (or_from (eqb (e / 64) 0) (eqb (e / 64) 3) (ne_eqb (e / 64) 0 (λ z. bad (inl z))) (ne_eqb (e / 64) 3 (λ t. bad (inr t))))
 
-not_true : (t : Bool) → not t ≡ false → t ≡ true
-not_true true e = refl
-not_true false e = cc
-
 good_from : (e : ℕ) → is_wrong e ≡ false → IsGood e
-good_from e off = elim (or_cases (eqb (e / 64) 0) (eqb (e / 64) 3) (not_true (is_state e) off)) [
+good_from e off = elim (or_cases (eqb (e / 64) 0) (eqb (e / 64) 3) (not-false (is_state e) off)) [
   | inl z ↦ inl (eqb-true (e / 64) 0 z)
   | inr t ↦ inr (eqb-true (e / 64) 3 t)
 ]

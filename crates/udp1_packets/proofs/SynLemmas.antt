@@ -11,7 +11,8 @@ use Rattle.carrier.specs.declared.first_layout.Refusal1.{Refusal1}
 use Rattle.carrier.specs.declared.first_layout.Refusal1.TheVariants as refusal
 use Rattle.udp1_packets.specs.Value.{Extended, Syn, SynBody}
 use Rattle.udp1_packets.specs.Layout.{has, IsBytes, IsMtu, IsBlock, IsSyn, block_fields, extension_fields, body_fields, zeros}
-use Rattle.udp1_packets.specs.Reading.{◌>>=◌, block32_at, extended_at, zeros_at, syn_with, syn_at}
+use Rattle.mt_base.specs.Parts.{◌>>=◌}
+use Rattle.udp1_packets.specs.Reading.{block32_at, extended_at, zeros_at, syn_with, syn_at}
 use Rattle.udp1_packets.specs.Faults.{block_bytes, Opens, RefusedMtu, RefusedExtension, RefusedSyn, initial_cut, up_wrong, down_wrong, correlation_cut, extension_wrong, padding_wrong}
 use Rattle.mt_base.proofs.Fronts.{left_at as at}
 use Rattle.udp1_packets.proofs.Pieces.{number_reads, number_cut, mtu_reads, mtu_answer, mtu_or, block32_reads, block32_cut, block32_or, zeros_read, zeros_wrong, Padding, all_zeros, not_all, padding_or}

@@ -1,11 +1,12 @@
 -- What reading gives, in the words of the layout and the faults, and what follows of both.
-use Rattle.std.proofs.Common.{◌≡◌, ℕ, zero, suc, ◌+◌, ◌<◌, ◌≤◌, List, [], length, get_or, replicate, Option, Some, None, Result, Ok, Err, refl, ap, subst, arith}
+use Rattle.std.proofs.Common.{◌≡◌, ℕ, ◌+◌, ◌<◌, ◌≤◌, List, [], length, get_or, replicate, Option, Some, None, Result, Ok, Err, refl, ap, subst, arith}
 use Rattle.std.specs.Result.{IfOk, IfErr, IsOkAnd}
 use Rattle.std.proofs.lemmas.List.{length-replicate}
-use Rattle.std.proofs.lemmas.List.Elements.{All-from_get_or, All-cons, All-nil}
+use Rattle.std.proofs.lemmas.List.Elements.{All-from_get_or}
 use Rattle.mt_base.specs.Reading.{Left}
 use Rattle.mt_base.specs.Writing.{Spot, puts}
 use Rattle.mt_base.specs.declared.errors.NoRoom.{NoRoom}
+use Rattle.mt_base.proofs.Numbers.{zero_bytes}
 use Rattle.mt_base.proofs.Fill.{puts_fit}
 use Rattle.mt_base.proofs.Fields.{not_both, ok_is}
 use Rattle.mt_base.proofs.Meanings.{Meaning, was_spelled, was_fault, one_value}
@@ -29,10 +30,6 @@ meaning = record {
 }
 
 -- ---- what a writer spells
-
-zero_bytes : (n : ℕ) → IsBytes (replicate n 0)
-zero_bytes zero = All-nil (λ b. b < 256)
-zero_bytes (suc n) = All-cons (λ b. b < 256) 0 (replicate n 0) (omega arith) (zero_bytes n)
 
 zeros_fill : (vector : Option (List ℕ)) → Fills vector (zeros_after vector)
 zeros_fill None = refl

@@ -11,7 +11,8 @@ use Rattle.carrier.specs.declared.first_layout.Refusal1.{Refusal1}
 use Rattle.carrier.specs.declared.first_layout.Refusal1.TheVariants as refusal
 use Rattle.udp1_packets.specs.Value.{Syn, Body, SynBody, DataBody, FecBody, BareBody, Packet}
 use Rattle.udp1_packets.specs.Layout.{has, flag_if, announced, mark_mask, IsBytes, IsBody, Allows, Choice, Spells, body_fields, zeros}
-use Rattle.udp1_packets.specs.Reading.{◌>>=◌, syn_at, opening_at, told_at, marks_in, body_at, packet_at}
+use Rattle.mt_base.specs.Parts.{◌>>=◌}
+use Rattle.udp1_packets.specs.Reading.{syn_at, opening_at, told_at, marks_in, body_at, packet_at}
 use Rattle.udp1_packets.specs.Faults.{RefusedSyn, RefusedTold, Headed, Refused, ack_cut, window_cut, word_cut, with_data, syn_wrong, told_wrong}
 use Rattle.udp1_packets.proofs.Words.{syn_word, data_word, fec_word, bare_word, no_fec, with_fec, syn_is, data_is, fec_is, bare_is, under_mask}
 use Rattle.mt_base.proofs.Fronts.{left_at as at}

@@ -1,31 +1,19 @@
 -- Reading a packet field by field: the packet, or the first fault. This is what the code's parts
 -- are proved against; what it means is said by the layout and by the faults, which it meets.
-use Rattle.std.specs.Prelude.{◌≡◌, ℕ, ◌+◌, ◌/◌, Bool, true, false, ◌&&◌, ◌||◌, not, List, length, nat_lt, eqb, if◌then◌else◌, Option, Some, None, Result, Ok, Err}
+use Rattle.std.specs.Prelude.{◌≡◌, ℕ, ◌+◌, ◌/◌, Bool, ◌&&◌, ◌||◌, not, List, length, nat_lt, eqb, if◌then◌else◌, Option, Some, None, Result, Ok, Err}
 use Rattle.std.specs.List.{position_from}
 use Rattle.std.specs.Int.RustNames.{bit_and}
 use Rattle.mt_base.specs.declared.errors.Short.{Short}
 use Rattle.mt_base.specs.Reading.{Left, block, big}
+use Rattle.mt_base.specs.Parts.{◌>>=◌, cut_as, where_set}
 use Rattle.carrier.specs.declared.first_layout.Refusal1.{Refusal1}
 use Rattle.carrier.specs.declared.first_layout.Refusal1.TheVariants as refusal
 use Rattle.udp1_packets.specs.Value.{Extended, Syn, Body, SynBody, DataBody, FecBody, BareBody, Packet}
 use Rattle.udp1_packets.specs.Layout.{has, is_valid, to_four}
 
-infixl 10 ◌>>=◌
--- the next part, where the one before it was read
-abbrev pub ◌>>=◌ : {A B : Type 0} → Result A Refusal1 → (A → Result B Refusal1) → Result B Refusal1
-(Ok x) >>= next = next x
-(Err e) >>= next = Err e
-
 -- a field that is cut short is a refusal
 abbrev pub cut : {A : Type 0} → Result (A × Left) Short → Result (A × Left) Refusal1
-cut (Ok x) = Ok x
-cut (Err e) = Err (refusal.Short e)
-
--- a part that a flag announces
-abbrev pub where_set : {A : Type 0} → Bool → (Left → Result (A × Left) Refusal1) → Left
-    → Result (Option A × Left) Refusal1
-where_set false read s = Ok (None, s)
-where_set true read s = read s >>= λ x. Ok (Some x.0, x.1)
+cut r = cut_as refusal.Short r
 
 -- ---- opening packets
 

@@ -9,7 +9,8 @@ use Rattle.mt_base.proofs.Fronts.{left_at, byte_reads}
 use Rattle.carrier.specs.declared.second_layout.Refusal2.TheVariants as refusal
 use Rattle.udp2_packets.specs.Layout.{prefix, exchanged, Holds}
 use Rattle.udp2_packets.specs.Faults.{IsWrongLength}
-use Rattle.udp2_packets.specs.Reading.{◌>>=◌, end_of, is_dummy, header_at, packet_at, reading}
+use Rattle.mt_base.specs.Parts.{◌>>=◌}
+use Rattle.udp2_packets.specs.Reading.{end_of, is_dummy, header_at, packet_at, reading}
 use Rattle.udp2_packets.proofs.WriterLemmas.{length-exchanged}
 
 -- ---- the exchange

@@ -1,5 +1,4 @@
 pub mod WriterLemmas
-pub mod Chains
 pub mod Pieces
 pub mod Words
 pub mod Whole

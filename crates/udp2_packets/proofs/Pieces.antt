@@ -7,43 +7,44 @@ use Rattle.std.proofs.lemmas.List.{length-replicate}
 use Rattle.byteorder.specs.Endian.{big_number, little_number, little_bytes}
 use Rattle.byteorder.specs.Numbers.{length-bytes_low_first}
 use Rattle.mt_base.specs.Reading.{block, big, little}
-use Rattle.mt_base.proofs.Numbers.{IsBytes}
+use Rattle.mt_base.specs.Parts.{where_some}
+use Rattle.mt_base.proofs.Numbers.{IsBytes, zero_bytes}
 use Rattle.mt_base.proofs.Fields.{field_refuses, byte_law, little_law, block_law, byte_or, little_or, block_or}
 use Rattle.carrier.specs.declared.second_layout.Refusal2.TheVariants as refusal
 use Rattle.udp2_packets.specs.Value.{Ack, Stamp, Vector, Delay}
-use Rattle.udp2_packets.specs.Layout.{has, flag_if, where_some, byte_field, number_field, ack_fields, stamp_fields, vector_fields, delay_fields, IsAck, IsStamp, IsVector, IsDelay}
+use Rattle.udp2_packets.specs.Layout.{has, flag_if, byte_field, number_field, ack_fields, stamp_fields, vector_fields, delay_fields, IsAck, IsStamp, IsVector, IsDelay}
 use Rattle.udp2_packets.specs.Reading.{cut, number_at, ack_at, stamp_at, stamp_where, vector_at, delay_at, ack_where, vector_where, delay_where, byte_where, number_where, Announced, announced_at}
-use Rattle.udp2_packets.proofs.Chains.{Part, one_part, then_part, made_part, as_part, where_part, IsWhere}
+use Rattle.mt_base.proofs.Chains.{Part, one_part, then_part, made_part, as_part, where_part, IsWhere}
 
 -- ---- one field
 
-little_part : (n : ℕ) → 0 < 256 ^ n → Part (λ s. cut (little n s)) (λ x. little_bytes n x ∷ []) (λ x. x < 256 ^ n)
+little_part : (n : ℕ) → 0 < 256 ^ n → Part refusal.Short (λ s. cut (little n s)) (λ x. little_bytes n x ∷ []) (λ x. x < 256 ^ n)
 little_part n positive =
     one_part (λ s. cut (little n s)) n (little_bytes n) (λ x. x < 256 ^ n) (little_law refusal.Short n) (field_refuses refusal.Short n (little_number n)) (little_or n) (λ x good. length-bytes_low_first 0 n x) 0 positive
 
-byte_part : Part (λ s. cut (big 1 s)) (λ x. (x ∷ []) ∷ []) (λ x. x < 256)
+byte_part : Part refusal.Short (λ s. cut (big 1 s)) (λ x. (x ∷ []) ∷ []) (λ x. x < 256)
 byte_part = one_part (λ s. cut (big 1 s)) 1 (λ x. x ∷ []) (λ x. x < 256) (byte_law refusal.Short) (field_refuses refusal.Short 1 (big_number 1)) byte_or (λ x good. refl) 0 (omega arith)
 
 zeros_are : (n : ℕ) → (length (let z : ℕ = 0 in replicate n z) ≡ n) × IsBytes (replicate n 0)
-zeros_are n = (length-replicate n 0, Rattle.std.proofs.lemmas.List.Elements.All-replicate (λ b. b < 256) n 0 (omega arith))
+zeros_are n = (length-replicate n 0, zero_bytes n)
 
-block_part : (n : ℕ) → Part (λ s. cut (block n s)) (λ x. x ∷ []) (λ x. (length x ≡ n) × IsBytes x)
+block_part : (n : ℕ) → Part refusal.Short (λ s. cut (block n s)) (λ x. x ∷ []) (λ x. (length x ≡ n) × IsBytes x)
 block_part n =
     one_part (λ s. cut (block n s)) n (λ x. x) (λ x. (length x ≡ n) × IsBytes x) (block_law refusal.Short n) (field_refuses refusal.Short n (take n)) (block_or n) (λ x good. good.0) (replicate n 0) (zeros_are n)
 
-number_part : Part number_at number_field (λ number. number < 2 ^ 16)
+number_part : Part refusal.Short number_at number_field (λ number. number < 2 ^ 16)
 number_part = little_part 2 (omega arith)
 
 -- ---- the delay and the time
 
-pub delay_part : Part delay_at delay_fields IsDelay
+pub delay_part : Part refusal.Short delay_at delay_fields IsDelay
 unfolding delay_at
 delay_part = as_part IsDelay (λ d f. (f.0, (f.1, refl))) (λ d g. (g.0, g.1.0))
     (then_part (λ (d : Delay). d.most) byte_part
     (λ (most : ℕ) (g : most < 256). made_part (λ (d : Delay). d.timeout) (λ (timeout : ℕ). record { most = most; timeout = timeout }) (λ timeout. refl) (little_part 2 (omega arith)))
     (λ most d g h. ap (λ (x : Delay). x.most) h.1))
 
-pub stamp_part : Part stamp_at stamp_fields IsStamp
+pub stamp_part : Part refusal.Short stamp_at stamp_fields IsStamp
 unfolding stamp_at
 stamp_part = as_part IsStamp (λ s f. (f.0, (f.1, refl))) (λ s g. (g.0, g.1.0))
     (then_part (λ (s : Stamp). s.time) (little_part 3 (omega arith))
@@ -71,7 +72,7 @@ ack_fine a g =
     let scale : a.scale ≡ sizes_of a / 16 = ap (λ (x : Ack). x.scale) g.1.1.1.1.1 in
     record { number_fits = g.0; received_ts_fits = g.1.0; gap_fits = g.1.1.0; scale_fits = omega arith; few_delays = omega arith; delays_are = g.1.1.1.1.0.1 }
 
-pub ack_part : Part ack_at ack_fields IsAck
+pub ack_part : Part refusal.Short ack_at ack_fields IsAck
 unfolding ack_at
 ack_part = as_part IsAck ack_good ack_fine
     (then_part (λ (a : Ack). a.number) (little_part 2 (omega arith)) (λ (number : ℕ) (g1 : number < 256 ^ 2).
@@ -111,11 +112,11 @@ size_is size there n small is long = elim (cases_lt size 128) [
   | inr h ↦ (let on : there ≡ true = is ∙ ap not (le-ltb size 128 h) in ap (λ b. n + flag_if b 128) on ∙ (let e : n + 128 ≡ size = omega arith in e))
 ]
 
-stamp_where_part : (there : Bool) → Part (stamp_where there) (where_some stamp_fields) (IsWhere there IsStamp)
+stamp_where_part : (there : Bool) → Part refusal.Short (stamp_where there) (where_some stamp_fields) (IsWhere there IsStamp)
 unfolding stamp_where
 stamp_where_part there = where_part there stamp_part
 
-pub vector_part : Part vector_at vector_fields IsVector
+pub vector_part : Part refusal.Short vector_at vector_fields IsVector
 unfolding vector_at
 vector_part = as_part IsVector vector_good vector_fine
     (then_part (λ (v : Vector). v.base) (little_part 2 (omega arith)) (λ (base : ℕ) (g1 : base < 256 ^ 2).
@@ -128,23 +129,23 @@ vector_part = as_part IsVector vector_good vector_fine
 
 -- ---- what the flags announce
 
-ack_where_part : (there : Bool) → Part (ack_where there) (where_some ack_fields) (IsWhere there IsAck)
+ack_where_part : (there : Bool) → Part refusal.Short (ack_where there) (where_some ack_fields) (IsWhere there IsAck)
 unfolding ack_where
 ack_where_part there = where_part there ack_part
 
-vector_where_part : (there : Bool) → Part (vector_where there) (where_some vector_fields) (IsWhere there IsVector)
+vector_where_part : (there : Bool) → Part refusal.Short (vector_where there) (where_some vector_fields) (IsWhere there IsVector)
 unfolding vector_where
 vector_where_part there = where_part there vector_part
 
-delay_where_part : (there : Bool) → Part (delay_where there) (where_some delay_fields) (IsWhere there IsDelay)
+delay_where_part : (there : Bool) → Part refusal.Short (delay_where there) (where_some delay_fields) (IsWhere there IsDelay)
 unfolding delay_where
 delay_where_part there = where_part there delay_part
 
-byte_where_part : (there : Bool) → Part (byte_where there) (where_some byte_field) (IsWhere there (λ size. size < 2 ^ 8))
+byte_where_part : (there : Bool) → Part refusal.Short (byte_where there) (where_some byte_field) (IsWhere there (λ size. size < 2 ^ 8))
 unfolding byte_where
 byte_where_part there = where_part there byte_part
 
-number_where_part : (there : Bool) → Part (number_where there) (where_some number_field) (IsWhere there (λ number. number < 2 ^ 16))
+number_where_part : (there : Bool) → Part refusal.Short (number_where there) (where_some number_field) (IsWhere there (λ number. number < 2 ^ 16))
 unfolding number_where
 number_where_part there = where_part there number_part
 
@@ -158,7 +159,7 @@ AnnouncedGood dummy flags a = IsWhere (has flags 0x001) IsAck a.ack × (IsWhere 
     × (IsWhere (has flags 0x004 && not dummy) (λ part. part < 2 ^ 16) a.part
     × (a ≡ record { ack = a.ack; overhead = a.overhead; delay = a.delay; aoa = a.aoa; number = a.number; vector = a.vector; part = a.part })))))))
 
-pub announced_part : (dummy : Bool) (flags : ℕ) → Part (announced_at dummy flags) fields_of (AnnouncedGood dummy flags)
+pub announced_part : (dummy : Bool) (flags : ℕ) → Part refusal.Short (announced_at dummy flags) fields_of (AnnouncedGood dummy flags)
 unfolding announced_at
 announced_part dummy flags =
     then_part (λ (a : Announced). a.ack) (ack_where_part (has flags 0x001)) (λ (ack : Option Ack) (g1 : IsWhere (has flags 0x001) IsAck ack).

@@ -17,7 +17,8 @@ use Rattle.udp2_packets.specs.Faults
 use Rattle.udp2_packets.specs.Faults.{Refused, IsWrongLength, Headed}
 use Rattle.udp2_packets.specs.declared.packet.Packet2.{Packet2}
 use Rattle.udp2_packets.specs.Views.{packet_of}
-use Rattle.udp2_packets.specs.Reading.{◌>>=◌, is_dummy, checked, fields_at, header_at, packet_at, reading, Answers}
+use Rattle.mt_base.specs.Parts.{◌>>=◌}
+use Rattle.udp2_packets.specs.Reading.{is_dummy, checked, fields_at, header_at, packet_at, reading, Answers}
 use Rattle.udp2_packets.proofs.WriterLemmas.{length-exchanged, written_is}
 use Rattle.udp2_packets.proofs.Frames
 use Rattle.udp2_packets.proofs.Frames.{exchanged_of, reading_is, reading_short, end_wrong, no_dummy, dummy, neither, framed, Frame, frame_or}

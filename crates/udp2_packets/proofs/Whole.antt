@@ -12,10 +12,10 @@ use Rattle.carrier.specs.declared.second_layout.Refusal2.{Refusal2}
 use Rattle.carrier.specs.declared.second_layout.Refusal2.TheVariants as refusal
 use Rattle.udp2_packets.specs.Value.{Ack, Vector, Telling, NoTelling, AckTelling, VectorTelling, Body, NoBody, DataBody, DummyBody, Packet}
 use Rattle.udp2_packets.specs.Layout.{ack_in, vector_in, number_in, part_in, rest_in, has, flags_for, flags, header, announced_fields, fields, text, IsPacket}
-use Rattle.udp2_packets.specs.Faults.{Cut}
-use Rattle.udp2_packets.specs.Reading.{◌>>=◌, Announced, telling, body_at, fields_at, checked, header_at}
-use Rattle.udp2_packets.proofs.Chains
-use Rattle.udp2_packets.proofs.Chains.{Part, split, in_first, in_second, only_cut, cut_second, cut_behind, Decided}
+use Rattle.mt_base.specs.Parts.{◌>>=◌, Cut}
+use Rattle.udp2_packets.specs.Reading.{Announced, telling, body_at, fields_at, checked, header_at}
+use Rattle.mt_base.proofs.Chains
+use Rattle.mt_base.proofs.Chains.{split, in_first, in_second, only_cut, cut_second, cut_behind, Decided}
 use Rattle.udp2_packets.proofs.Pieces.{fields_of, AnnouncedGood, announced_part}
 use Rattle.udp2_packets.proofs.Words.{Shows, shows, word_is}
 
@@ -94,7 +94,7 @@ fields_read : (dummy : Bool) (flags log_window : ℕ) (a : Announced) → Announ
 unfolding fields_at
 fields_read dummy flags log_window a g at rest = ap (λ q. q >>= λ x. behind_fields dummy log_window x) ((announced_part dummy flags).reads a g at rest)
 
-fields_cut : (dummy : Bool) (flags log_window : ℕ) (a : Announced) → AnnouncedGood dummy flags a → (at : ℕ) (bytes : List ℕ) (r : Refusal2) → Cut (fields_of a) at bytes r
+fields_cut : (dummy : Bool) (flags log_window : ℕ) (a : Announced) → AnnouncedGood dummy flags a → (at : ℕ) (bytes : List ℕ) (r : Refusal2) → Cut refusal.Short (fields_of a) at bytes r
     → fields_at dummy flags log_window (left_at at bytes) ≡ Err r
 unfolding fields_at
 fields_cut dummy flags log_window a g at bytes r c = ap (λ q. q >>= λ x. behind_fields dummy log_window x) ((announced_part dummy flags).cuts a g at bytes r c)
@@ -126,7 +126,7 @@ packet_reads p is =
     ∙ ap (λ q. q >>= λ body. Ok (made p.log_window (announced_in p) body)) (body_reads p.body (3 + length (joined (announced_fields p))))
     ∙ ap (λ t. Ok (record { log_window = p.log_window; telling = t; overhead = p.overhead; delay = p.delay; aoa = p.aoa; body = p.body })) (told_again p.telling)
 
-pub packet_cuts : (p : Packet) → IsPacket p → (bytes : List ℕ) (r : Refusal2) → 2 ≤ length bytes → Cut (fields p) 1 bytes r → header_at (dummy_of p.body) (left_at 1 bytes) ≡ Err r
+pub packet_cuts : (p : Packet) → IsPacket p → (bytes : List ℕ) (r : Refusal2) → 2 ≤ length bytes → Cut refusal.Short (fields p) 1 bytes r → header_at (dummy_of p.body) (left_at 1 bytes) ≡ Err r
 packet_cuts p is bytes r enough c =
     let front = header (flags p) p.log_window in
     elim (split (front ∷ []) (announced_fields p) c.front c.field c.behind c.fields_are) [
@@ -216,7 +216,7 @@ is_of dummy flags_are log_window a small few known one g body rest number_is par
 -- bytes behind a header with known flags
 pub data Behind (dummy : Bool) (bytes : List ℕ) : Type 0 where
   packet : (p : Packet) → IsPacket p → dummy_of p.body ≡ dummy → bytes ≡ text p → Behind dummy bytes
-  field_cut : (p : Packet) (r : Refusal2) → IsPacket p → dummy_of p.body ≡ dummy → Cut (fields p) 1 bytes r → Behind dummy bytes
+  field_cut : (p : Packet) (r : Refusal2) → IsPacket p → dummy_of p.body ≡ dummy → Cut refusal.Short (fields p) 1 bytes r → Behind dummy bytes
   trailing : (p : Packet) (b : ℕ) (others : List ℕ) → IsPacket p → p.body ≡ NoBody → dummy ≡ false → bytes ≡ text p ++ (b ∷ others) → Behind dummy bytes
 
 pub behind_or : (dummy : Bool) (flags_are log_window : ℕ) (rest : List ℕ) → flags_are < 4096 → log_window < 16 → has flags_are 0xEA2 ≡ false → (has flags_are 0x001 && has flags_are 0x008) ≡ false
@@ -249,13 +249,13 @@ behind_or dummy flags_are log_window rest small few known one bytes = by_fields 
         ∙ sym (append_assoc (header flags_are log_window) (joined (fields_of a)) (b ∷ others))
         ∙ ap (λ t. t ++ (b ∷ others)) (ap (λ t. header flags_are log_window ++ t) (sym (append-nil (joined (fields_of a)))) ∙ sym (joined_is a p [] of)))
 
-    with_cut : (a : Announced) (r : Refusal2) → AnnouncedGood dummy flags_are a → Cut (fields_of a) 3 rest r → Bodied dummy a.number a.part [] → Behind dummy (header flags_are log_window ++ rest)
+    with_cut : (a : Announced) (r : Refusal2) → AnnouncedGood dummy flags_are a → Cut refusal.Short (fields_of a) 3 rest r → Bodied dummy a.number a.part [] → Behind dummy (header flags_are log_window ++ rest)
     with_cut a r g c (whole body number_is part_is dummy_is rest_is) =
         let of = is_of dummy flags_are log_window a small few known one g body [] number_is part_is dummy_is rest_is (All-nil (λ b. b < 256)) in
-        let cut : Cut (header flags_are log_window ∷ fields_of a) 1 (header flags_are log_window ++ rest) r = cut_behind (header flags_are log_window ∷ []) (fields_of a) 1 (header flags_are log_window ++ rest) rest r refl c in
-        field_cut (made log_window a body) r of.is of.dummy_is (subst (λ fs. Cut fs 1 (header flags_are log_window ++ rest) r) (sym of.fields_is) cut)
+        let cut : Cut refusal.Short (header flags_are log_window ∷ fields_of a) 1 (header flags_are log_window ++ rest) r = cut_behind (header flags_are log_window ∷ []) (fields_of a) 1 (header flags_are log_window ++ rest) rest r refl c in
+        field_cut (made log_window a body) r of.is of.dummy_is (subst (λ fs. Cut refusal.Short fs 1 (header flags_are log_window ++ rest) r) (sym of.fields_is) cut)
     with_cut a r g c (more b others last_is no_number no_part no_dummy) = cc
 
-    by_fields : Decided fields_of (AnnouncedGood dummy flags_are) 3 rest → Behind dummy (header flags_are log_window ++ rest)
+    by_fields : Decided refusal.Short fields_of (AnnouncedGood dummy flags_are) 3 rest → Behind dummy (header flags_are log_window ++ rest)
     by_fields (Chains.begins a last g is good_last) = with_body a last g is good_last (bodied dummy a.number a.part last (part_is a g))
     by_fields (Chains.cut_short a r g c) = with_cut a r g c (bodied dummy a.number a.part [] (part_is a g))

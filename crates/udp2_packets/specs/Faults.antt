@@ -1,23 +1,11 @@
 -- Why a datagram holds no packet of the second layout: the first fault in the order of the checks.
 -- Places are those before the exchange of two bytes, with the prefix byte at 0.
 use Rattle.std.specs.Prelude.{◌≡◌, ◌≢◌, ◌⊎◌, ℕ, ◌+◌, ◌/◌, ◌<◌, true, false, List, ◌∷◌, ◌++◌, length}
-use Rattle.mt_base.specs.Writing.{joined}
+use Rattle.mt_base.specs.Parts.{Cut}
 use Rattle.carrier.specs.declared.second_layout.Refusal2.{Refusal2}
 use Rattle.carrier.specs.declared.second_layout.Refusal2.TheVariants as refusal
 use Rattle.udp2_packets.specs.Value.{NoBody, Packet}
 use Rattle.udp2_packets.specs.Layout.{has, header, kind, fields, text, IsPacket, exchanged, Holds}
-
--- Bytes from this place on begin with some of these fields, and the next field is cut short.
-pub record Cut (fields : List (List ℕ)) (at : ℕ) (bytes : List ℕ) (r : Refusal2) : Type 0 where
-  pub front : List (List ℕ)
-  pub field : List ℕ
-  pub behind : List (List ℕ)
-  pub rest : List ℕ
-  pub fields_are : fields ≡ front ++ (field ∷ behind)
-  pub bytes_are : bytes ≡ joined front ++ rest
-  pub few : length rest < length field
-  pub refusal_is : r ≡
-      refusal.Short (record { at = at + length (joined front); need = length field })
 
 -- The short length in this first byte is below 2, or it is below 7 and the datagram has more than
 -- 8 bytes.
@@ -47,7 +35,7 @@ pub data Refused (datagram : List ℕ) (r : Refusal2) : Type 0 where
       → has flags 0x001 ≡ true → has flags 0x008 ≡ true
       → r ≡ refusal.AckAndVector 1 → Refused datagram r
   field_cut : (p : Packet) (bytes : List ℕ) → IsPacket p → Holds datagram (kind p.body) bytes
-      → Cut (fields p) 1 bytes r → Refused datagram r
+      → Cut refusal.Short (fields p) 1 bytes r → Refused datagram r
   trailing : (p : Packet) (b : ℕ) (rest : List ℕ) → IsPacket p → p.body ≡ NoBody
       → Holds datagram 0 (text p ++ (b ∷ rest))
       → r ≡ refusal.Trailing (1 + length (text p)) → Refused datagram r

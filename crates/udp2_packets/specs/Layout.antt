@@ -4,6 +4,7 @@ use Rattle.std.specs.Prelude.{◌≡◌, ℕ, ◌+◌, ◌-◌, ◌*◌, ◌^◌
 use Rattle.std.specs.Int.RustNames.{bit_and}
 use Rattle.byteorder.specs.Endian.{little_bytes}
 use Rattle.mt_base.specs.Writing.{joined}
+use Rattle.mt_base.specs.Parts.{where_some}
 use Rattle.udp2_packets.specs.Value.{Ack, Stamp, Vector, Telling, NoTelling, AckTelling, VectorTelling, Delay, Body, NoBody, DataBody, DummyBody, Packet}
 
 -- ---- what a packet has
@@ -61,11 +62,6 @@ abbrev pub header : ℕ → ℕ → List ℕ
 header flags log_window = little_bytes 2 (flags + 4096 * log_window)
 
 -- ---- the fields in order
-
--- the fields of what is there
-abbrev pub where_some : {A : Type 0} → (A → List (List ℕ)) → Option A → List (List ℕ)
-where_some fields None = []
-where_some fields (Some x) = fields x
 
 abbrev pub byte_field : ℕ → List (List ℕ)
 byte_field byte = (byte ∷ []) ∷ []

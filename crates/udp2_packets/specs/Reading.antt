@@ -3,28 +3,15 @@
 use Rattle.std.specs.Prelude.{◌≡◌, ℕ, ◌+◌, ◌/◌, ◌%◌, Bool, true, false, ◌&&◌, ◌||◌, not, List, length, take, slice_index, nat_lt, eqb, if◌then◌else◌, Option, Some, None, Result, Ok, Err}
 use Rattle.mt_base.specs.declared.errors.Short.{Short}
 use Rattle.mt_base.specs.Reading.{Left, block, big, little}
+use Rattle.mt_base.specs.Parts.{◌>>=◌, cut_as, where_set}
 use Rattle.carrier.specs.declared.second_layout.Refusal2.{Refusal2}
 use Rattle.carrier.specs.declared.second_layout.Refusal2.TheVariants as refusal
 use Rattle.udp2_packets.specs.Value.{Ack, Stamp, Vector, Telling, NoTelling, AckTelling, VectorTelling, Delay, Body, NoBody, DataBody, DummyBody, Packet}
 use Rattle.udp2_packets.specs.Layout.{has, exchanged}
 
-infixl 10 ◌>>=◌
--- the next part, where the one before it was read
-abbrev pub ◌>>=◌ : {A B : Type 0} → Result A Refusal2 → (A → Result B Refusal2)
-    → Result B Refusal2
-(Ok x) >>= next = next x
-(Err e) >>= next = Err e
-
 -- a field that is cut short is a refusal
 abbrev pub cut : {A : Type 0} → Result (A × Left) Short → Result (A × Left) Refusal2
-cut (Ok x) = Ok x
-cut (Err e) = Err (refusal.Short e)
-
--- a part that a flag announces
-abbrev pub where_set : {A : Type 0} → Bool → (Left → Result (A × Left) Refusal2) → Left
-    → Result (Option A × Left) Refusal2
-where_set false read s = Ok (None, s)
-where_set true read s = read s >>= λ x. Ok (Some x.0, x.1)
+cut r = cut_as refusal.Short r
 
 -- ---- the parts
 

@@ -4,7 +4,8 @@ ghost use Rattle.std.specs.Prelude.{◌≡◌, ◌+◌, ◌-◌, ◌*◌, ◌<�
 ghost use Rattle.std.specs.Option.{option_map};
 ghost use Rattle.mt_base.specs.Writing.{Writes, puts, joined};
 ghost use Rattle.mt_base.specs.OutView.{spot};
-ghost use Rattle.udp2_packets.specs.Layout.{ack_in, vector_in, number_in, part_in, rest_in, flag_if, flags, where_some, byte_field, number_field, ack_fields, stamp_fields, vector_fields, delay_fields, announced_fields, text, IsAck, IsStamp, IsVector, IsPacket, kind, prefix, zeros, all_fields, plain_fields, written_fields, spelled};
+ghost use Rattle.mt_base.specs.Parts.{where_some};
+ghost use Rattle.udp2_packets.specs.Layout.{ack_in, vector_in, number_in, part_in, rest_in, flag_if, flags, byte_field, number_field, ack_fields, stamp_fields, vector_fields, delay_fields, announced_fields, text, IsAck, IsStamp, IsVector, IsPacket, kind, prefix, zeros, all_fields, plain_fields, written_fields, spelled};
 ghost use Rattle.udp2_packets.specs.Filling.{fill, plain, EndsAt};
 ghost use Rattle.udp2_packets.specs.Views.{ack_of, stamp_of, vector_of, telling_of, delay_of, body_of, packet_of};
 

@@ -1,5 +1,5 @@
 use Rattle.dvc_pdus.specs.Value.{fields, sync_request}
-use Rattle.dvc_pdus.proofs.Spaces.{room_found}
+use Rattle.mt_base.proofs.Spaces.{room_found}
 use Rattle.dvc_pdus.proofs.moves.find_room.Goals as goal
 
 pub returns-clause-found : goal.returns-clause-found

@@ -1,7 +1,7 @@
 use Rattle.std.proofs.Common.{rules, arith}
 use Rattle.mt_base.proofs.Fields.{handed}
 use Rattle.dvc_pdus.specs.Value.{fields, sync_request}
-use Rattle.dvc_pdus.proofs.Spaces.{never_refused}
+use Rattle.mt_base.proofs.Spaces.{never_refused}
 use Rattle.dvc_pdus.proofs.moves.write_sync.Goals as goal
 
 pub returns-clause-ok : goal.returns-clause-ok

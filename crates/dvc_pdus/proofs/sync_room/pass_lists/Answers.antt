@@ -1,7 +1,7 @@
 use Rattle.std.proofs.lemmas.Result.{err_from_is_err_and}
 use Rattle.mt_base.proofs.Fields.{as_err}
 use Rattle.dvc_pdus.specs.ListViews.{list_of, lists_left}
-use Rattle.dvc_pdus.specs.RoomView.{space}
+use Rattle.mt_base.specs.RoomView.{space}
 use Rattle.dvc_pdus.proofs.SyncWriting.{list_passed, list_refused}
 use Rattle.dvc_pdus.proofs.sync_room.pass_lists.Goals as goal
 

@@ -1,6 +1,6 @@
 use Rattle.std.proofs.Common.{◌≡◌, length, map}
-use Rattle.dvc_pdus.specs.Space.{passes}
-use Rattle.dvc_pdus.specs.RoomView.{space}
+use Rattle.mt_base.specs.Space.{passes}
+use Rattle.mt_base.specs.RoomView.{space}
 use Rattle.dvc_pdus.specs.Value.{lists_fields}
 use Rattle.dvc_pdus.specs.ListViews.{lists_left}
 use Rattle.dvc_pdus.proofs.sync_room.pass_lists.Given as goal

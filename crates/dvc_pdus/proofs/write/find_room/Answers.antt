@@ -1,6 +1,6 @@
 use Rattle.dvc_pdus.specs.Value.{fields}
 use Rattle.dvc_pdus.specs.Views.{pdu_of}
-use Rattle.dvc_pdus.proofs.Spaces.{room_found}
+use Rattle.mt_base.proofs.Spaces.{room_found}
 use Rattle.dvc_pdus.proofs.write.find_room.Goals as goal
 
 pub returns-clause-found : goal.returns-clause-found

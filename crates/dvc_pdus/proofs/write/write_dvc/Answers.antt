@@ -2,7 +2,7 @@ use Rattle.std.proofs.Common.{rules, arith}
 use Rattle.mt_base.proofs.Fields.{handed}
 use Rattle.dvc_pdus.specs.Value.{fields}
 use Rattle.dvc_pdus.specs.Views.{pdu_of}
-use Rattle.dvc_pdus.proofs.Spaces.{never_refused}
+use Rattle.mt_base.proofs.Spaces.{never_refused}
 use Rattle.dvc_pdus.proofs.write.write_dvc.Goals as goal
 
 pub returns-clause-ok : goal.returns-clause-ok

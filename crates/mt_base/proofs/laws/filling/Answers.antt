@@ -3,6 +3,7 @@ use Rattle.std.proofs.lemmas.Bool.{cases_lt}
 use Rattle.mt_base.specs.declared.errors.NoRoom.{NoRoom}
 use Rattle.mt_base.specs.Writing.{Spot, puts, joined}
 use Rattle.mt_base.proofs.Fill.{puts_filled, puts_fit}
+use Rattle.mt_base.proofs.Spaces.{sized}
 use Rattle.mt_base.proofs.laws.filling.Goals as goal
 
 pub returns-clause-fits : goal.returns-clause-fits
@@ -17,3 +18,6 @@ refused fs s e is (inl h) = h
 
 pub returns-clause-no_room : goal.returns-clause-no_room
 returns-clause-no_room c fs s e is = refused fs s e is (cases_lt (length s.after) (length (joined fs)))
+
+pub returns-clause-counted : goal.returns-clause-counted
+returns-clause-counted c fs s = sized fs s

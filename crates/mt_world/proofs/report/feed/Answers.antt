@@ -1,13 +1,9 @@
-use Rattle.std.proofs.Common.{◌≡◌, ℕ, ◌+◌, ◌<◌, List, [], ◌∷◌, ◌++◌, length, take, get_or, sym, ap, ◌∙◌, subst, append_assoc, append-nil, arith}
+use Rattle.std.proofs.Common.{◌≡◌, ℕ, ◌+◌, ◌<◌, List, [], ◌∷◌, ◌++◌, length, take, get_or, sym, ap, ◌∙◌, subst, append_assoc, arith}
 use Rattle.std.proofs.lemmas.List.{take_all, take_more}
 use Rattle.sha2.specs.Hashers.{Holds256}
 use Rattle.mt_base.specs.Writing.{joined}
-use Rattle.mt_base.proofs.Fill.{joined-append}
+use Rattle.mt_base.proofs.Fill.{joined-push}
 use Rattle.mt_world.proofs.report.feed.Goals as goal
-
--- one message behind others
-joined-push : (messages : List (List ℕ)) (message : List ℕ) → joined (messages ++ message ∷ []) ≡ joined messages ++ message
-joined-push messages message = joined-append messages (message ∷ []) ∙ ap (λ x. joined messages ++ x) (append-nil message)
 
 -- the bytes fed before a message and those of the message
 fed_more : (fed message : List ℕ) (messages : List (List ℕ)) (i : ℕ) → i < length messages → message ≡ get_or messages i message

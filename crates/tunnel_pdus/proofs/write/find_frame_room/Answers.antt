@@ -1,6 +1,6 @@
 use Rattle.tunnel_pdus.specs.Value.{frame_fields}
 use Rattle.tunnel_pdus.specs.Views.{frame_of}
-use Rattle.tunnel_pdus.proofs.Spaces.{room_found}
+use Rattle.mt_base.proofs.Spaces.{room_found}
 use Rattle.tunnel_pdus.proofs.write.find_frame_room.Goals as goal
 
 pub returns-clause-found : goal.returns-clause-found

@@ -1,6 +1,6 @@
 use Rattle.tunnel_pdus.specs.Value.{pdu_fields}
 use Rattle.tunnel_pdus.specs.Views.{pdu_of}
-use Rattle.tunnel_pdus.proofs.Spaces.{room_found}
+use Rattle.mt_base.proofs.Spaces.{room_found}
 use Rattle.tunnel_pdus.proofs.write.find_room.Goals as goal
 
 pub returns-clause-found : goal.returns-clause-found

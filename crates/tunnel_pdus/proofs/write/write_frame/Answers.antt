@@ -2,7 +2,7 @@ use Rattle.std.proofs.Common.{rules, arith}
 use Rattle.mt_base.proofs.Fields.{handed}
 use Rattle.tunnel_pdus.specs.Value.{frame_fields}
 use Rattle.tunnel_pdus.specs.Views.{frame_of}
-use Rattle.tunnel_pdus.proofs.Spaces.{never_refused}
+use Rattle.mt_base.proofs.Spaces.{never_refused}
 use Rattle.tunnel_pdus.proofs.write.write_frame.Goals as goal
 
 pub returns-clause-ok : goal.returns-clause-ok

@@ -1,6 +1,7 @@
 -- Whether fields find a place in an output, by numbers alone.
-use Rattle.std.specs.Prelude.{◌≡◌, ℕ, ◌+◌, ◌-◌, List, [], ◌∷◌, nat_lt, if◌then◌else◌, Result, Ok, Err}
+use Rattle.std.specs.Prelude.{◌≡◌, ℕ, ◌+◌, ◌-◌, List, [], ◌∷◌, length, nat_lt, if◌then◌else◌, Result, Ok, Err}
 use Rattle.mt_base.specs.declared.errors.NoRoom.{NoRoom}
+use Rattle.mt_base.specs.Writing.{Spot}
 
 -- the number of bytes before a place, and behind it
 pub record Space : Type 0 where
@@ -27,3 +28,12 @@ passes (n ∷ ns) s = then_pass (pass n s) (passes ns)
 abbrev pub Passes : {X : Type 0} → Space → Result X NoRoom → Result Space NoRoom → Type 0
 Passes new (Ok x) passed = passed ≡ Ok new
 Passes new (Err e) passed = passed ≡ Err e
+
+-- the numbers of a spot
+abbrev pub numbers : Spot → Space
+numbers s = record { before = length s.before; behind = length s.after }
+
+-- what writing answered, by its numbers
+abbrev pub counted : Result Spot NoRoom → Result Space NoRoom
+counted (Ok s) = Ok (numbers s)
+counted (Err e) = Err e

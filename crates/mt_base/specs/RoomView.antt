@@ -1,6 +1,6 @@
 -- The room that is left in an output, as its numbers.
-use Rattle.dvc_pdus.specs.declared.room.Room.{Room}
-use Rattle.dvc_pdus.specs.Space.{Space}
+use Rattle.mt_base.specs.declared.room.Room.{Room}
+use Rattle.mt_base.specs.Space.{Space}
 
 abbrev pub space : Room → Space
 space r = record { before = r.at; behind = r.left }

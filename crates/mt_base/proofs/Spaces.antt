@@ -5,15 +5,7 @@ use Rattle.mt_base.specs.declared.errors.NoRoom.{NoRoom}
 use Rattle.std.specs.Result.{OnOk, IfErr}
 use Rattle.mt_base.specs.Writing.{Spot, puts, then_put, joined}
 use Rattle.mt_base.proofs.Fill.{puts_filled, puts_fit}
-use Rattle.tunnel_pdus.specs.Space.{Space, passes, then_pass, Passes}
-
--- the numbers of a spot
-abbrev pub numbers : Spot → Space
-numbers s = record { before = length s.before; behind = length s.after }
-
-abbrev pub counted : Result Spot NoRoom → Result Space NoRoom
-counted (Ok s) = Ok (numbers s)
-counted (Err e) = Err e
+use Rattle.mt_base.specs.Space.{Space, passes, then_pass, Passes, numbers, counted}
 
 -- fields are passed over as they are written
 pub sized : (fs : List (List ℕ)) (s : Spot) → passes (map length fs) (numbers s) ≡ counted (puts fs s)
