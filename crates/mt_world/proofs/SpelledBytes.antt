@@ -73,7 +73,6 @@ spelled_bytes from (Data id bytes) h spoken = (
   all-append (λ b. b < 2 ^ 8) (smallest id) (bytes ++ []) (smallest_bytes id)
       (all-append (λ b. b < 2 ^ 8) bytes [] (recursion_from_All (λ b. b < 2 ^ 8) bytes h.1) tt),
 )
-
 spelled_bytes from (DataFirst id total bytes) h spoken = absurd (unspoken spoken)
 spelled_bytes from (CompressedFirst id total bytes) h spoken = absurd (unspoken spoken)
 spelled_bytes from (Compressed id bytes) h spoken = absurd (unspoken spoken)
