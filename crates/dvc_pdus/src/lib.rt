@@ -27,4 +27,6 @@ pub use read::read_dvc;
 pub use write::write_dvc;
 
 #[cfg(test)]
+mod sync_tests;
+#[cfg(test)]
 mod tests;

@@ -12,7 +12,6 @@ ghost use Rattle.dvc_pdus.specs.ListViews.{ids_left, list_of, lists_left, types_
 
 use crate::command::{SYNC_REQUEST, SYNC_RESPONSE};
 use crate::lists::{Ids, SyncList, SyncLists, SyncTypes};
-
 use mt_base::{Kind, NoRoom, Out};
 
 /// The code of a kind of tunnel.
