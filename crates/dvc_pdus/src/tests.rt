@@ -72,15 +72,13 @@ fn refuses_each_cut(rt: HostRuntime) {
     ];
     for (bytes, cuts) in pdus {
         assert!(rt; read_dvc(Role::Client, bytes).is_ok(), "at {bytes:?}");
-        let mut length = 0;
-        for (at, need) in cuts.iter() {
+        for (length, (at, need)) in cuts.iter().enumerate() {
             let cut = bytes.get(..length).unwrap_or(&[]);
             assert_eq!(rt;
                 read_dvc(Role::Client, cut),
                 Err(short(*at, *need)),
                 "at {cut:?}"
             );
-            length += 1;
         }
     }
 }
