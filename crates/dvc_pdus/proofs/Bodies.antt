@@ -11,7 +11,7 @@ use Rattle.mt_base.proofs.Fronts.{left_at, byte_reads, little_reads, little_cut,
 use Rattle.dvc_pdus.specs.declared.pdu.DvcRefusal.{DvcRefusal}
 use Rattle.dvc_pdus.specs.declared.pdu.DvcRefusal.TheVariants as refusal
 use Rattle.dvc_pdus.specs.Value.{Caps, CreateRequest, CreateResponse, DataFirst, Data, CompressedFirst, Compressed, Close, IsName}
-use Rattle.dvc_pdus.specs.Reading.{◌>>=◌, cut, id_at, leading_id_at, length_at, ended, name_at, charges_at, capabilities_at, create_request_at, create_response_at, within, data_first_at, data_at, compressed_first_at, compressed_at, close_at}
+use Rattle.dvc_pdus.specs.Reading.{◌>>=◌, cut, leading_id_at, length_at, ended, name_at, charges_at, capabilities_at, create_request_at, create_response_at, within, data_first_at, data_at, compressed_first_at, compressed_at, close_at}
 use Rattle.dvc_pdus.specs.Layout.{id_in, IsSizeOf}
 use Rattle.dvc_pdus.specs.Faults.{RefusedName, Cut}
 use Rattle.dvc_pdus.proofs.Parts.{id_reads, cut_id, length_as_id, leading_as_id, name_law, name_answer, ended_none}

@@ -1,5 +1,5 @@
 -- The header byte: the command that it names, and what is read behind it.
-use Rattle.std.proofs.Common.{◌≡◌, ◌≢◌, ◌⊎◌, inl, inr, eqb, ℕ, ◌+◌, ◌*◌, ◌/◌, ◌%◌, ◌<◌, ◌≤◌, false, List, ◌∷◌, ◌++◌, Some, None, Err, refl, sym, ap, ◌∙◌, subst, arith}
+use Rattle.std.proofs.Common.{◌≡◌, ◌≢◌, ◌⊎◌, inl, inr, eqb, ℕ, ◌+◌, ◌*◌, ◌/◌, ◌%◌, ◌<◌, ◌≤◌, false, List, Some, None, Err, refl, sym, ◌∙◌, subst, arith}
 use Rattle.std.proofs.lemmas.Bool.{cases_eq, ne_eqb}
 use Rattle.mt_base.specs.Reading.{Left}
 use Rattle.mt_base.specs.declared.kinds.Role.{Role}
@@ -9,7 +9,6 @@ use Rattle.dvc_pdus.specs.declared.command.Command.TheVariants as command
 use Rattle.dvc_pdus.specs.declared.pdu.DvcRefusal.{DvcRefusal}
 use Rattle.dvc_pdus.specs.declared.pdu.DvcRefusal.TheVariants as refusal
 use Rattle.dvc_pdus.specs.Reading.{command_of, id_at, leading_id_at, capabilities_at, create_request_at, create_response_at, data_first_at, data_at, compressed_first_at, compressed_at, close_at, sync_request_at, sync_response_at, body_at, pdu_at}
-use Rattle.dvc_pdus.specs.Layout.{first_byte}
 use Rattle.dvc_pdus.specs.Faults.{Headed, IsUnknown, HasId, HasLength}
 
 -- behind a header byte the body is read

@@ -1,6 +1,6 @@
 -- Each first fault is the answer.
-use Rattle.std.proofs.Common.{◌≡◌, ◌⊎◌, inl, inr, ℕ, ◌+◌, ◌^◌, ◌<◌, List, [], ◌∷◌, ◌++◌, length, map, Some, None, Ok, Err, refl, sym, ap, ◌∙◌, subst, arith}
-use Rattle.std.specs.List.{All, flat_map}
+use Rattle.std.proofs.Common.{◌≡◌, inl, inr, ℕ, ◌+◌, ◌^◌, ◌<◌, List, ◌∷◌, ◌++◌, length, map, Ok, Err, refl, sym, ap, ◌∙◌, subst, arith}
+use Rattle.std.specs.List.{flat_map}
 use Rattle.byteorder.specs.Endian.{little_bytes}
 use Rattle.mt_base.specs.Writing.{joined}
 use Rattle.mt_base.specs.declared.kinds.Role.{Role}
@@ -9,8 +9,8 @@ use Rattle.mt_base.proofs.Fields.{as_err}
 use Rattle.mt_base.proofs.Fronts.{left_at, big_cut}
 use Rattle.dvc_pdus.specs.declared.pdu.DvcRefusal.{DvcRefusal}
 use Rattle.dvc_pdus.specs.declared.pdu.DvcRefusal.TheVariants as refusal
-use Rattle.dvc_pdus.specs.Value.{SyncRequest, SyncResponse, list_count, type_field}
-use Rattle.dvc_pdus.specs.Reading.{◌>>=◌, ended, items_at, list_at, id_at, leading_id_at, body_at, pdu_at}
+use Rattle.dvc_pdus.specs.Value.{SyncRequest, SyncResponse, list_count}
+use Rattle.dvc_pdus.specs.Reading.{◌>>=◌, ended, items_at, list_at, body_at, pdu_at}
 use Rattle.dvc_pdus.specs.Layout.{id_in}
 use Rattle.dvc_pdus.specs.Faults
 use Rattle.dvc_pdus.specs.Faults.{Cut, Headed, HasId, HasLength, HasPad, Named, Listed, list_bytes, RefusedFields}
@@ -18,7 +18,7 @@ use Rattle.dvc_pdus.proofs.Items.{items_read, items_refused}
 use Rattle.dvc_pdus.proofs.SyncItems.{kind_item, list_item}
 use Rattle.dvc_pdus.proofs.Parts.{ended_more, unknown_id, cut_id, unknown_length, unknown_leading_id, leading_as_id}
 use Rattle.dvc_pdus.proofs.Bodies.{behind_id, request_name, response_status, data_first_reads, data_first_length, compressed_first_length, within_small, capabilities_pad, capabilities_version, capabilities_charge}
-use Rattle.dvc_pdus.proofs.SyncBodies.{lists_on, request_pad, request_length_cut, request_length_wrong, request_flags, request_tunnels, response_pad, response_count, response_types}
+use Rattle.dvc_pdus.proofs.SyncBodies.{request_pad, request_length_cut, request_length_wrong, request_flags, request_tunnels, response_pad, response_count, response_types}
 use Rattle.dvc_pdus.proofs.Headers.{headed_reads, unknown_reads, no_body, request_body, response_body, data_first_body, capabilities_body, compressed_first_body, sync_request_body, sync_response_body, id_refused}
 use Rattle.dvc_pdus.proofs.SpelledReads.{closed_reads, listed_reads}
 

@@ -1,5 +1,5 @@
 -- What the reading of Soft-Sync PDUs gives: at the bytes that spell them, and at each fault.
-use Rattle.std.proofs.Common.{◌≡◌, ◌≢◌, eqb, ℕ, ◌+◌, ◌^◌, ◌<◌, List, [], ◌∷◌, ◌++◌, length, Result, Ok, Err, refl, ap, ◌∙◌, arith}
+use Rattle.std.proofs.Common.{◌≡◌, ◌≢◌, ℕ, ◌+◌, ◌^◌, ◌<◌, List, ◌∷◌, ◌++◌, length, Result, Ok, Err, refl, ◌∙◌}
 use Rattle.std.proofs.lemmas.Bool.{ne_eqb, eq-eqb}
 use Rattle.byteorder.specs.Endian.{little_bytes}
 use Rattle.mt_base.specs.Reading.{Left, little}

@@ -1,21 +1,18 @@
 -- The items of Soft-Sync PDUs: channel ids, types of tunnels, and lists of channels.
-use Rattle.std.proofs.Common.{◌≡◌, ◌≢◌, ◌⊎◌, inl, inr, ℕ, ◌+◌, ◌^◌, ◌<◌, List, [], ◌∷◌, ◌++◌, length, map, Some, None, Result, Ok, Err, refl, sym, ap, ◌∙◌, subst, arith, append_assoc}
-use Rattle.std.specs.List.{All, flat_map}
+use Rattle.std.proofs.Common.{◌≡◌, ◌⊎◌, inl, inr, ℕ, ◌+◌, ◌^◌, ◌<◌, List, [], ◌∷◌, ◌++◌, length, map, Ok, Err, refl, sym, ap, ◌∙◌, arith}
+use Rattle.std.specs.List.{flat_map}
 use Rattle.std.proofs.lemmas.Bool.{cases_eq, ne_eqb}
-use Rattle.std.proofs.lemmas.List.{length-append}
 use Rattle.byteorder.specs.Endian.{little_bytes}
-use Rattle.mt_base.specs.Reading.{Left}
 use Rattle.mt_base.specs.Writing.{joined}
 use Rattle.mt_base.specs.declared.kinds.Kind.{Kind}
 use Rattle.mt_base.specs.declared.kinds.Kind.TheVariants.{Reliable, Lossy}
-use Rattle.mt_base.proofs.Numbers.{IsBytes}
-use Rattle.mt_base.proofs.Fields.{Begins, as_err, little_or}
+use Rattle.mt_base.proofs.Fields.{Begins, little_or}
 use Rattle.mt_base.proofs.Fill.{joined-append}
 use Rattle.mt_base.proofs.Fronts.{left_at, little_reads, little_cut}
 use Rattle.dvc_pdus.specs.declared.pdu.DvcRefusal.{DvcRefusal}
 use Rattle.dvc_pdus.specs.declared.pdu.DvcRefusal.TheVariants as refusal
 use Rattle.dvc_pdus.specs.Value.{ChannelList, IsList, tunnel_type, type_field, list_fields, lists_fields}
-use Rattle.dvc_pdus.specs.Reading.{number_at, kind_of, kind_at, list_at, items_at}
+use Rattle.dvc_pdus.specs.Reading.{number_at, kind_at, list_at, items_at}
 use Rattle.dvc_pdus.specs.Faults.{RefusedType, type_cut, type_unknown, RefusedList, list_type, count_cut, list_id, Cut, list_bytes}
 use Rattle.dvc_pdus.proofs.Items.{Item, Items, items_read, items_refused, items_or}
 

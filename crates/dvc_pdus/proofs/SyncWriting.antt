@@ -1,8 +1,6 @@
 -- Lemmas on writing Soft-Sync PDUs, list by list.
 use Rattle.std.proofs.Common.{◌≡◌, ℕ, zero, suc, ◌+◌, ◌*◌, ◌≤◌, List, [], ◌∷◌, ◌++◌, length, map, replicate, Result, Ok, Err, refl, sym, ap, ◌∙◌, arith}
-use Rattle.std.specs.List.{flat_map}
 use Rattle.std.proofs.lemmas.List.{length-append}
-use Rattle.byteorder.specs.Endian.{little_bytes}
 use Rattle.mt_base.specs.declared.errors.NoRoom.{NoRoom}
 use Rattle.mt_base.specs.Reading.{Left}
 use Rattle.mt_base.specs.Writing.{Spot, puts, then_put, joined}
@@ -10,7 +8,7 @@ use Rattle.mt_base.proofs.Fill.{puts-append, joined-append}
 use Rattle.dvc_pdus.specs.declared.pdu.DvcRefusal.{DvcRefusal}
 use Rattle.mt_base.specs.Space.{Space, pass, passes, then_pass}
 use Rattle.dvc_pdus.specs.Reading.{items_in}
-use Rattle.dvc_pdus.specs.Value.{ChannelList, id_fields, list_fields, lists_fields, type_fields, type_field}
+use Rattle.dvc_pdus.specs.Value.{ChannelList, id_fields, list_fields, lists_fields, type_fields}
 use Rattle.mt_base.specs.declared.kinds.Kind.{Kind}
 
 -- an iterator over so many items has no more of them left

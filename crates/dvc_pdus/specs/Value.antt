@@ -1,6 +1,6 @@
 -- Channel PDUs as values of lists and numbers, and the bytes that a writer spells for them
 -- (MS-RDPEDYC section 2.2).
-use Rattle.std.specs.Prelude.{◌≡◌, ◌==◌, ℕ, ◌+◌, ◌*◌, ◌^◌, ◌<◌, ◌≤◌, Bool, true, false, not, List, [], ◌∷◌, ◌++◌, length, map, flat_map, All, Option, None, Some, nat_lt, if◌then◌else◌, bit_and}
+use Rattle.std.specs.Prelude.{◌≡◌, ◌==◌, ℕ, ◌+◌, ◌*◌, ◌^◌, ◌<◌, ◌≤◌, Bool, not, List, [], ◌∷◌, ◌++◌, length, map, flat_map, All, Option, None, Some, nat_lt, if◌then◌else◌, bit_and}
 use Rattle.byteorder.specs.Endian.{little_bytes}
 use Rattle.mt_base.specs.Writing.{joined}
 use Rattle.mt_base.specs.declared.kinds.Role.{Role}

@@ -7,7 +7,7 @@ use Rattle.byteorder.specs.Endian.{little_bytes}
 use Rattle.mt_base.specs.declared.kinds.Role.{Role}
 use Rattle.mt_base.specs.declared.kinds.Role.TheVariants.{Server, Client}
 use Rattle.mt_base.specs.Writing.{joined}
-use Rattle.dvc_pdus.specs.Value.{Pdu, Caps, CreateRequest, CreateResponse, DataFirst, Data, CompressedFirst, Compressed, Close, SyncRequest, SyncResponse, Fits, IsPdu, IsNameByte, spelled, smallest, size_code}
+use Rattle.dvc_pdus.specs.Value.{Pdu, Caps, CreateRequest, CreateResponse, DataFirst, Data, CompressedFirst, Compressed, Close, SyncRequest, SyncResponse, Fits, IsNameByte, spelled, smallest, size_code}
 use Rattle.mt_world.specs.Frames.{framed, is_spoken, IsSpoken}
 use Rattle.mt_world.proofs.Outgoing.{all-append}
 

@@ -1,4 +1,4 @@
-use Rattle.std.proofs.Common.{arith, refl, sym, rules}
+use Rattle.std.proofs.Common.{arith, refl}
 use Rattle.std.proofs.lemmas.Result.{err_from_is_err_and}
 use Rattle.mt_base.specs.CursorView.{left}
 use Rattle.mt_base.proofs.Fields.{as_err}
