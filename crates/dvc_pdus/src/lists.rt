@@ -1,5 +1,6 @@
 //! What a Soft-Sync request moves, and what its response takes, over the bytes that they were read
-//! from.
+//! from. These bytes were checked when they were read, so each item that an iterator counts is there,
+//! and is read once more where it is yielded.
 
 use crate::sync::{kind, list};
 use mt_base::{Cursor, Kind};
