@@ -13,3 +13,5 @@ pub mod Pulled
 pub mod Meant
 pub mod Whole
 pub mod Small
+pub mod Informed
+pub mod OneEnd

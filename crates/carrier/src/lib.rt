@@ -16,6 +16,7 @@ mod byte_queue;
 mod first_layout;
 mod laws;
 mod lossy;
+mod one_end;
 mod perfect_carrier;
 mod perfect_datagram;
 mod perfect_post;
@@ -29,6 +30,7 @@ pub use first_layout::Refusal1;
 pub use laws::{
     perfect_bytes_arrive, perfect_bytes_in_order, perfect_parts_arrive, perfect_parts_in_order,
 };
+pub use one_end::faithful_links;
 pub use lossy::{Post, PostRefusal};
 pub use perfect_carrier::PerfectCarrier;
 pub use perfect_post::PerfectPost;
