@@ -15,3 +15,5 @@ pub mod Whole
 pub mod Small
 pub mod Informed
 pub mod OneEnd
+pub mod Carries
+pub mod Closes

@@ -3,12 +3,12 @@ use Rattle.std.specs.Prelude.{◌≡◌, ◌⊎◌, ℕ, ◌+◌, ◌*◌, ◌<�
 use Rattle.mt_base.specs.Trace.{Trace, Start, ◌▷◌}
 use Rattle.mt_base.specs.Writing.{joined}
 use Rattle.mt_windows.specs.Arrived.{passed, has_part}
-use Rattle.mt_windows.specs.Sending.{Act, Limits, cuts, is_open, lowest_or_next, next_piece, piece, pieces, queued, reach, transmissions}
+use Rattle.mt_windows.specs.Sending.{Act, Limits, cuts, is_open, lowest_or_next, next_piece, piece, pieces, transmissions}
 use Rattle.carrier.specs.Entries.{Entry, Polled, given, pulled}
 use Rattle.carrier.specs.Layout.{Layout, Datagram, Carried, Shows, tells}
 use Rattle.carrier.specs.LayoutLaw.{IsLayout, shown_of}
 use Rattle.carrier.specs.Receiving.{accepted}
-use Rattle.carrier.specs.Sending.{acts, timer, is_closed}
+use Rattle.carrier.specs.Sending.{acts}
 use Rattle.carrier.specs.Due.{meant}
 
 -- ---- the premise
@@ -33,25 +33,29 @@ pub record IsNext (layout : Layout) (t : Trace Entry) (c : Carried) : Type 0 whe
   pub transmission : c.transmission ≡ layout.own + transmissions (acts layout t)
   pub place : ℕ
   pub part : c.part ≡ layout.own + place
-  pub which : (is_open layout.bounds.windows (acts layout t) place ≡ true) ⊎ (place ≡ cuts (acts layout t))
+  pub which : (is_open layout.bounds.windows (acts layout t) place ≡ true)
+      ⊎ (place ≡ cuts (acts layout t))
   pub bytes : c.bytes ≡ piece_or_next layout.bounds.windows (acts layout t) place
   pub some_bytes : 1 ≤ length c.bytes
   pub few_bytes : length c.bytes ≤ layout.bounds.windows.part
 
 abbrev pub SendsNext : Layout → Trace Entry → Type 0
-SendsNext layout t = (now : ℕ) (d : Datagram) (c : Carried) → meant layout t now ≡ Some d → d.load ≡ Some c → IsNext layout t c
+SendsNext layout t =
+    (now : ℕ) (d : Datagram) (c : Carried) → meant layout t now ≡ Some d → d.load ≡ Some c → IsNext layout t c
 
 -- a poll's datagram shows what it means, and is not too long
 abbrev pub ShowsMeant : Layout → Trace Entry → Type 0
 ShowsMeant layout t =
     (now : ℕ) (d : Datagram) → meant layout t now ≡ Some d
-    → (layout.read (layout.spell d) ≡ Shows (shown_of layout d)) × (length (layout.spell d) ≤ layout.bounds.datagram)
+    → (layout.read (layout.spell d) ≡ Shows (shown_of layout d))
+    × (length (layout.spell d) ≤ layout.bounds.datagram)
 
 -- what a poll's datagram tells as received was accepted
 abbrev pub TellsAccepted : Layout → Trace Entry → Type 0
 TellsAccepted layout t =
     (now : ℕ) (d : Datagram) → meant layout t now ≡ Some d
-    → (n : ℕ) → layout.peer ≤ n → tells d.telling n ≡ true → has_part layout.peer (accepted layout t) n ≡ true
+    → (n : ℕ) → layout.peer ≤ n → tells d.telling n ≡ true
+    → has_part layout.peer (accepted layout t) n ≡ true
 
 -- ---- what was sent
 
@@ -88,7 +92,8 @@ pub record InOrder (layout : Layout) (s : Trace Act) (sent : List Carried) : Typ
 
 -- the parts joined are the beginning of what was given
 abbrev pub PartsWereGiven : Layout → Trace Entry → Type 0
-PartsWereGiven layout t = (more : List ℕ) × (given t ≡ joined (pieces layout.bounds.windows (acts layout t)) ++ more)
+PartsWereGiven layout t =
+    (more : List ℕ) × (given t ≡ joined (pieces layout.bounds.windows (acts layout t)) ++ more)
 
 -- each part is below the lowest unsettled one plus the window
 abbrev pub WithinWindow : Layout → Trace Act → Type 0

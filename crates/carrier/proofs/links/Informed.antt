@@ -1,8 +1,7 @@
 -- What a telling does to a sender alone; how far it reaches, and what it has queued.
-use Rattle.std.proofs.Common.{◌≡◌, ℕ, zero, suc, ◌+◌, ◌-◌, ◌<◌, ◌≤◌, ◌⊎◌, inl, inr, Bool, true, false, not, eqb, ltb, cond, ◌||◌, ◌&&◌, length, All, Option, Some, None, refl, sym, ap, ◌∙◌, subst, arith}
-use Rattle.std.proofs.lemmas.Bool.{cases_lt}
+use Rattle.std.proofs.Common.{◌≡◌, ℕ, zero, suc, ◌+◌, ◌-◌, ◌<◌, ◌≤◌, Bool, true, false, eqb, ltb, cond, ◌||◌, ◌&&◌, length, All, Option, Some, None, refl, sym, ap, subst, arith}
 use Rattle.mt_base.specs.Trace.{Trace, ◌▷◌}
-use Rattle.mt_windows.specs.Sending.Act.{Cut, Resent, ToldPart}
+use Rattle.mt_windows.specs.Sending.Act.{ToldPart}
 use Rattle.mt_windows.specs.Sending.{Act, Limits, cuts, given, is_open, last_end, latest, lowest_or_next, piece, queued, reach, settled, sum_of, told, transmissions}
 use Rattle.mt_windows.proofs.Counts.{last_le}
 use Rattle.mt_windows.proofs.Pieces.{all_bytes}
@@ -132,9 +131,14 @@ sum_more f g n m le h =
 -- no more is queued where nothing was given, and no part was lost
 pub queued_less : (l : Limits) (a b : Trace Act) → given b ≡ given a → cuts a ≤ cuts b → ((p : ℕ) → p < cuts a → piece l b p ≡ piece l a p) → ((p : ℕ) → settled l a p ≡ true → settled l b p ≡ true) → queued l b ≤ queued l a
 queued_less l a b is_given more same settles =
-    omega (arith, all_bytes l a, all_bytes l b, ap length is_given,
-    sum_more (λ p. cond (is_open l a p) 0 (length (piece l a p))) (λ p. cond (is_open l b p) 0 (length (piece l b p))) (cuts a) (cuts b) more
-    (λ p less. by_open p less (is_open l a p) (is_open l b p) refl refl))
+    omega (
+      arith,
+      all_bytes l a,
+      all_bytes l b,
+      ap length is_given,
+      sum_more (λ p. cond (is_open l a p) 0 (length (piece l a p))) (λ p. cond (is_open l b p) 0 (length (piece l b p))) (cuts a) (cuts b) more
+          (λ p less. by_open p less (is_open l a p) (is_open l b p) refl refl),
+    )
   where
     by_open : (p : ℕ) → p < cuts a → (x y : Bool) → is_open l a p ≡ x → is_open l b p ≡ y → cond x 0 (length (piece l a p)) ≤ cond y 0 (length (piece l b p))
     by_open p less true y e is = omega arith

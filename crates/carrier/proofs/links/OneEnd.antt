@@ -1,32 +1,23 @@
 -- What follows from the law of a link for one of its ends, by induction over its calls.
-use Rattle.std.proofs.Common.{◌≡◌, ℕ, zero, suc, ◌+◌, ◌-◌, ◌*◌, ◌<◌, ◌≤◌, ◌⊎◌, inl, inr, Bool, true, false, not, eqb, ltb, leb, cond, ◌&&◌, ◌||◌, List, [], ◌∷◌, ◌++◌, length, take, drop, min, slice_get, All, Option, Some, None, option_map, refl, sym, ap, ◌∙◌, subst, append-nil, append_assoc, arith, length-append, length-take, take-append-drop}
-use Rattle.std.proofs.lemmas.Bool.{cases_lt, cases_order, and_parts}
+use Rattle.std.proofs.Common.{◌≡◌, ℕ, ◌+◌, ◌<◌, ◌≤◌, ◌⊎◌, inl, inr, true, ltb, ◌&&◌, List, length, min, All, Some, None, sym, ap, ◌∙◌, subst, arith, length-take}
+use Rattle.std.proofs.lemmas.Bool.{cases_lt, and_parts}
 use Rattle.std.proofs.lemmas.Bool.Decides.{nat_tests}
 use Rattle.std.proofs.lemmas.List.Elements.{All-append, All-nil}
-use Rattle.std.proofs.lemmas.Option.{slice_get_past, slice_get_within}
 use Rattle.mt_base.specs.Trace.{Trace, Start, ◌▷◌}
-use Rattle.mt_base.specs.Writing.{joined}
-use Rattle.mt_base.proofs.Lists.{slice_get-append-left, slice_get-append-right}
-use Rattle.mt_windows.specs.Arrived.{passed, has_part}
-use Rattle.mt_windows.specs.Noted.{is_noted}
-use Rattle.mt_windows.specs.Sending.Act.{Gave as GaveBytes, Cut, Resent}
-use Rattle.mt_windows.specs.Sending.{Act, Limits, cuts, given as given_to, is_open, last_end, lowest_or_next, may_cut, next_piece, piece, pieces, queued, reach, settled, told, transmissions, waiting}
-use Rattle.mt_windows.proofs.Pieces.{pieces_and_rest}
-use Rattle.carrier.specs.Entries.{Entry, Gave, In, Polled, Pulled, Owed, Posted, Next, given, pulled}
-use Rattle.carrier.specs.Layout.{Layout, Datagram, Carried, Shows, tells}
-use Rattle.carrier.specs.LayoutLaw.{IsLayout, shown_of}
-use Rattle.carrier.specs.Receiving.{received, accepted, floor, effect, peer_window}
-use Rattle.carrier.specs.Sending.{Timer, acts, timer, timer_told, timer_polled, expires, is_over, is_waiting, settles, is_closed, hears, sends}
+use Rattle.mt_windows.specs.Sending.Act.{Gave as GaveBytes, Cut}
+use Rattle.mt_windows.specs.Sending.{Act, Limits, cuts, given as given_to, lowest_or_next, may_cut, next_piece, piece, queued, reach, told, transmissions, waiting}
+use Rattle.carrier.specs.Entries.{Entry, Gave, In, Polled, Pulled, Owed, Posted, Next}
+use Rattle.carrier.specs.Layout.{Layout, Datagram}
+use Rattle.carrier.specs.Receiving.{effect, peer_window}
+use Rattle.carrier.specs.Sending.{acts, hears, sends}
 use Rattle.carrier.specs.Law.{Faithful}
-use Rattle.carrier.specs.Due.{meant, meant_at, may_send, closes, due, again, fresh, bare}
-use Rattle.carrier.specs.Faithful.{TellsParts, piece_or_next, IsNext, SendsNext, ShowsMeant, TellsAccepted, one_load, loads_of, carried, WasCarried, InOrder, PartsWereGiven, WithinWindow, PulledWasPassed}
-use Rattle.carrier.proofs.links.Invariant.{Even, Grown}
+use Rattle.carrier.specs.Due.{meant, may_send, due}
+use Rattle.carrier.specs.Faithful.{TellsParts}
+use Rattle.carrier.proofs.links.Invariant.{Even}
 use Rattle.carrier.proofs.links.Numbers.{open_cut}
 use Rattle.carrier.proofs.links.Facing.{Alone}
-use Rattle.carrier.proofs.links.Steps.{cuts_within}
 use Rattle.carrier.proofs.links.Sends.{Says, Moved, Repeated, Extended, Told, says, outcome, piece_before, piece_next}
 use Rattle.carrier.proofs.links.Ends.{was_meant}
-use Rattle.carrier.proofs.links.Pulled.{pulled_front}
 use Rattle.carrier.proofs.links.Informed.{Informs, informs_hears, even_informs, reach_informs, reach_next, queued_less}
 
 -- ---- the invariant
