@@ -41,4 +41,6 @@ pub use state::{LinkState, Reason, Took};
 pub use two_links::{a_small_world, joined_links};
 
 #[cfg(test)]
+mod law_tests;
+#[cfg(test)]
 mod tests;

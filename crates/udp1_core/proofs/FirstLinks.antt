@@ -5,21 +5,29 @@ use Rattle.mt_base.specs.declared.kinds.Role.TheVariants.{Server, Client}
 use Rattle.mt_base.specs.Ends.{other}
 use Rattle.mt_base.specs.Trace.{Trace}
 use Rattle.mt_windows.specs.declared.limits.TheConstants.{WINDOW}
-use Rattle.carrier.specs.Entries.{Entry}
-use Rattle.carrier.specs.Layout.{Layout}
 use Rattle.carrier.specs.LayoutLaw.{IsLayout}
 use Rattle.carrier.specs.Law.{Faithful}
 use Rattle.carrier.specs.Joined.{Step, half}
+use Rattle.carrier.specs.Faithful.{TellsParts}
 use Rattle.carrier.specs.TwoLinks.{Margins, Net}
-use Rattle.udp1_core.specs.MachineView.{Machine, layout_of, link_layout, Stands}
+use Rattle.udp1_core.specs.MachineView.{Machine, link_layout}
 use Rattle.udp1_core.specs.FirstLink.{FirstLink, JoinedMachines, link_layouts}
 use Rattle.udp1_core.proofs.Whole.{is_layout}
+
+-- the layout of one end tells parts, and leaves room for them
+pub tells_parts : (own peer version : ℕ) → TellsParts (link_layout own peer version)
+tells_parts own peer version = record {
+  lawful = is_layout _ _ _ _ (omega arith) (omega arith);
+  tells_parts = refl;
+  some_part = omega arith;
+  half_window = omega arith;
+}
 
 pub margins : (late server client version : ℕ) → server < 2 ^ 32 → client < 2 ^ 32 → WINDOW + late ≤ 2 ^ 31
     → Margins late (link_layouts server client version)
 margins late server client version server_number client_number in_time = record {
   layout = layout;
-  tells_parts = tells_parts;
+  tells_parts = tells;
   reads = reads;
   faces = faces;
   bounds = bounds;
@@ -35,9 +43,9 @@ margins late server client version server_number client_number in_time = record 
     layout Server = is_layout _ _ _ _ (omega arith) (omega arith)
     layout Client = is_layout _ _ _ _ (omega arith) (omega arith)
 
-    tells_parts : (s : Role) → (link_layouts server client version s).tells_parts ≡ true
-    tells_parts Server = refl
-    tells_parts Client = refl
+    tells : (s : Role) → (link_layouts server client version s).tells_parts ≡ true
+    tells Server = refl
+    tells Client = refl
 
     reads : (s : Role) (datagram : List ℕ) → (link_layouts server client version s).read datagram ≡ (link_layouts server client version (other s)).read datagram
     reads Server datagram = refl

@@ -15,8 +15,8 @@ abbrev pub link_layouts : ℕ → ℕ → ℕ → Role → Layout
 link_layouts server client version Server = link_layout server client version
 link_layouts server client version Client = link_layout client server version
 
--- The two ends of such a link, joined by a network: each keeps the law of its layout, and of the
--- datagrams that are sent on the link fewer than `late` overtake one that comes.
+-- The two ends of such a link, joined by a network: each keeps the law of its layout, and fewer
+-- than `late` datagrams were sent on the link after one that comes.
 pub record FirstLink (late server client version : ℕ) (w : Trace Step) : Type 0 where
   pub server_number : server < 2 ^ 32
   pub client_number : client < 2 ^ 32

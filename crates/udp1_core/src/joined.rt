@@ -14,12 +14,12 @@ ghost use Rattle.udp1_core.specs.FirstLink.{FirstLink, JoinedMachines, link_layo
 use crate::machine::Udp1Core;
 use carrier::joined_links;
 
-/// The layouts of the two ends of a link, of whatever version and initial numbers, leave room for
-/// datagrams that more than two thousand million others overtake. So on such a link each datagram
-/// that comes in time is read as it was meant; a part that is settled was accepted at the other
-/// end, with the same bytes; the bytes that one end passed, or pulled, are the first of those that
-/// the other was given; no part below the lowest unsettled one is missing at the other end; and the
-/// parts that were cut never run more than two windows ahead of those that were drained.
+/// The two ends of a link, of whatever version and initial numbers, tell their numbers apart as long
+/// as fewer than 2^31 - 64 datagrams are sent after one that comes. So each is read as it was meant;
+/// a part that is settled was accepted at the other end, with the same bytes; the bytes that one end
+/// passed, or pulled, are the first of those that the other was given; no part below the lowest
+/// unsettled one is missing at the other end; and the parts that were cut never run more than two
+/// windows ahead of those that were drained.
 pub fn first_links_join()
     ensures margins { (late server client version : ℕ) → server < 2 ^ 32 → client < 2 ^ 32
         → WINDOW + late ≤ 2 ^ 31 → Margins late (link_layouts server client version) }
