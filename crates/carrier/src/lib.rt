@@ -41,6 +41,4 @@ pub use state::{LinkState, Reason, Took};
 pub use two_links::{a_small_world, joined_links};
 
 #[cfg(test)]
-mod law_tests;
-#[cfg(test)]
 mod tests;
