@@ -8,7 +8,8 @@ use Rattle.byteorder.specs.Endian.{little_number}
 use Rattle.byteorder.specs.Numbers.{little_number-reads_back}
 use Rattle.mt_base.specs.Trace.{Trace, Start, ◌▷◌}
 use Rattle.mt_base.specs.Writing.{joined}
-use Rattle.mt_base.proofs.Fill.{joined-append, joined-push}
+use Rattle.mt_base.proofs.Fill.{joined-append}
+use Rattle.mt_base.proofs.Fill.{joined-push}
 use Rattle.mt_windows.specs.declared.limits.TheConstants.{DATAGRAM, NUMBERS, PART, QUEUE}
 use Rattle.carrier.specs.declared.first_layout.Refusal1.TheVariants as refusal
 use Rattle.carrier.specs.declared.state.Reason.{Reason}
