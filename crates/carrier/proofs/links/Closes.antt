@@ -1,19 +1,19 @@
 -- The timer and the end of a link.
-use Rattle.std.proofs.Common.{◌≡◌, ℕ, ◌+◌, ◌<◌, ◌≤◌, Bool, true, false, not, ltb, leb, cond, ◌&&◌, ◌||◌, max, List, length, Option, Some, None, is_some, option_map, refl, sym, ap, ◌∙◌, subst, arith}
+use Rattle.std.proofs.Common.{◌≡◌, ℕ, ◌+◌, ◌≤◌, Bool, true, false, not, ltb, leb, cond, ◌&&◌, ◌||◌, max, List, length, Option, Some, None, is_some, option_map, refl, ap, ◌∙◌, arith}
 use Rattle.std.proofs.lemmas.Bool.{and_parts}
 use Rattle.std.proofs.lemmas.Bool.Decides.{nat_tests}
 use Rattle.mt_base.specs.Trace.{Trace, Start, ◌▷◌}
-use Rattle.mt_windows.specs.Sending.{Act, cuts, is_open, least, settled}
+use Rattle.mt_windows.specs.Sending.{Act, cuts, is_open, settled}
 use Rattle.mt_windows.proofs.Counts.{least_none}
 use Rattle.carrier.specs.declared.state.Took.{Took}
 use Rattle.carrier.specs.declared.state.Took.TheVariants.{Ignored}
 use Rattle.carrier.specs.declared.state.Reason.TheVariants as reason
 use Rattle.carrier.specs.Entries.{Entry, Gave, In, Polled, Pulled, Owed, Posted, Next, moment, pulled}
-use Rattle.carrier.specs.Layout.{Layout, Datagram}
+use Rattle.carrier.specs.Layout.{Layout}
 use Rattle.carrier.specs.Receiving.{received, reading, effect}
 use Rattle.carrier.specs.Sending.{Timer, acts, timer, timer_told, timer_polled, expires, expiry, hears, is_over, is_waiting, settles, is_closed}
 use Rattle.carrier.specs.Law.{Faithful, answered, answer_reading}
-use Rattle.carrier.specs.Due.{meant, closes, due}
+use Rattle.carrier.specs.Due.{meant, closes}
 
 -- ---- expiries in a row
 
