@@ -96,7 +96,7 @@ receives_adds layout r n None = ([], sym (append-nil (passed r.parts)))
 receives_adds layout r n (Some shown) = parts_add layout r n (arrival layout r n shown.load)
 
 -- a front stays where more is added behind
-take_front : (n : ℕ) (xs more : List ℕ) → n ≤ length xs → take n (xs ++ more) ≡ take n xs
+pub take_front : (n : ℕ) (xs more : List ℕ) → n ≤ length xs → take n (xs ++ more) ≡ take n xs
 take_front zero xs more within = refl
 take_front (suc n) [] more within = absurd (omega (arith, within))
 take_front (suc n) (x ∷ xs) more within = ap (λ l. x ∷ l) (take_front n xs more (omega (arith, within)))

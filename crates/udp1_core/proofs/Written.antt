@@ -1,5 +1,5 @@
 -- What stands at the front of a buffer after a datagram was written to it.
-use Rattle.std.proofs.Common.{◌≡◌, ℕ, ◌+◌, ◌-◌, ◌<◌, ◌≤◌, Bool, true, false, List, ◌++◌, All, length, take, drop, if◌then◌else◌, Option, Some, None, sym, ap, ap₂, ◌∙◌, subst, arith, length-take}
+use Rattle.std.proofs.Common.{◌≡◌, ℕ, ◌+◌, ◌-◌, ◌<◌, ◌≤◌, Bool, true, false, List, ◌++◌, All, length, take, drop, if◌then◌else◌, Option, Some, None, sym, ap, ap₂, ◌∙◌, subst, arith, length-take, zero-add, suc-add, [], ◌∷◌}
 use Rattle.std.proofs.Math.Seq.{take-append_seam}
 use Rattle.mt_windows.specs.Arrived.{Parts}
 use Rattle.carrier.specs.Layout.{Carried}
@@ -10,6 +10,7 @@ use Rattle.udp1_core.specs.FirstLayout.{first_layout, packet_with}
 use Rattle.udp1_core.specs.ReceiverView.{head_of}
 use Rattle.udp1_core.specs.MachineView.{carries}
 use Rattle.udp1_core.proofs.Spellings.{part_behind}
+use Rattle.udp1_core.proofs.Steps.{take_front}
 
 -- a text that was written to the front is taken from it
 pub front_is : (text rest out : List ℕ) (n : ℕ) → n ≡ length text → out ≡ text ++ rest
@@ -23,6 +24,27 @@ pub told_where : (text : List ℕ) (n : ℕ) (out : List ℕ) (pressing : Bool) 
     → Some (take n out) ≡ (if pressing then Some text else None)
 told_where text n out true is written = ap Some written
 told_where text n out false is written = absurd (cc)
+
+-- what stands behind a text that is taken with it
+take_behind : (xs ys : List ℕ) (r : ℕ) → take (length xs + r) (xs ++ ys) ≡ xs ++ take r ys
+take_behind [] ys r = ap (λ k. take k ys) (zero-add r)
+take_behind (x ∷ xs) ys r = ap (λ k. take k (x ∷ (xs ++ ys))) (suc-add (length xs) r) ∙ ap (λ l. x ∷ l) (take_behind xs ys r)
+
+-- a part is written to the front of what stands behind the head
+pub behind_head : (text rest mid part post : List ℕ) (head r : ℕ)
+    → head ≡ length text → mid ≡ text ++ rest → r ≤ length part
+    → take (head + r) (take head mid ++ (part ++ post)) ≡ take head mid ++ take r part
+behind_head text rest mid part post head r size is within =
+    let front = front_is text rest mid head size is in
+    let whole : (head + r) ≡ length text + r = ap (λ k. k + r) size in
+    ap₂ (λ k f. take k (f ++ (part ++ post))) whole front
+    ∙ take_behind text (part ++ post) r
+    ∙ ap (λ l. text ++ l) (take_front r part post within)
+    ∙ ap (λ f. f ++ take r part) (sym front)
+
+-- as many bytes as were taken were there
+pub taken_there : (r : ℕ) (part bytes : List ℕ) → r ≡ length bytes → take r part ≡ bytes → r ≤ length part
+taken_there r part bytes size is = omega (arith, size, ap length is, length-take r part)
 
 -- a part is written behind the head of its datagram
 pub part_written : (peer : ℕ) (parts : Parts) (floor : ℕ) (owed : List ℕ) (above : Option ℕ)

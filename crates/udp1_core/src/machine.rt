@@ -5,7 +5,7 @@ ghost use Rattle.mt_base.specs.Trace.{Trace, Start, ◌▷◌};
 ghost use Rattle.mt_windows.specs.Arrived.{Parts};
 ghost use Rattle.mt_windows.specs.ArrivedView.{left_of};
 ghost use Rattle.mt_windows.specs.Sending.Act.{Cut, Resent};
-ghost use Rattle.mt_windows.specs.Sending.{Act, cuts, lowest_or_next};
+ghost use Rattle.mt_windows.specs.Sending.{Act, cuts, lowest_or_next, next_piece, piece};
 ghost use Rattle.mt_windows.specs.SendingView.{limits, queued_of, is_unsettled, reach_of, next_transmission, may_cut_of};
 ghost use Rattle.udp1_packets.specs.Layout.{spelled};
 ghost use Rattle.carrier.specs.Entries.{Entry, Gave, In, Polled, Pulled, Owed};
@@ -17,7 +17,7 @@ ghost use Rattle.carrier.specs.Law.{answer_load, Faithful};
 ghost use Rattle.carrier.specs.LayoutLaw.{IsCarried};
 ghost use Rattle.udp1_core.specs.FirstLayout.{packet_with};
 ghost use Rattle.udp1_core.specs.ReceiverView.{Hears, head_of};
-ghost use Rattle.udp1_core.specs.SenderView.{Speaks, timer_begun};
+ghost use Rattle.udp1_core.specs.SenderView.{Speaks, timer_begun, layout_out};
 ghost use Rattle.udp1_core.specs.MachineView.{Stands, layout_of, link_layout, condition_of, carries, owed_after, fresh_load, again_load, earlier};
 ghost use Rattle.carrier.specs.declared.state.LinkState.TheVariants.{Open, Closed as IsClosed};
 ghost use Rattle.carrier.specs.declared.state.Took.TheVariants.{Ignored};
@@ -165,9 +165,30 @@ impl Udp1Core {
     {
         let numbers = self.sender.next_numbers();
         let head = self.receiver.head(None, Some(numbers), out);
-        let mut bytes = [0; 1000];
-        let length = self.sender.cut(self.moment, &mut bytes);
-        put_behind(head, &bytes[..length], out)
+        head + self.cut_into(&mut out[head..])
+    }
+
+    /// Writes the next part to the front of a buffer, and gives its length.
+    fn cut_into(&mut self, out: &mut [u8]) -> usize
+        requires room { may_cut_of self.old.sender.outbox self.old.sender.told ≡ true }
+        requires long { 1000 ≤ length out.old }
+        ensures bytes { (acts : Trace Act) (told : ℕ) (timer : Timer) → Speaks self.old.sender acts told timer →
+            (result ≡ length (next_piece limits acts)) × (take result out.new ≡ next_piece limits acts) }
+        ensures stands { (delay peer : ℕ) (acts : Trace Act) (told : ℕ) (timer : Timer) → Speaks self.old.sender acts told timer →
+            Speaks self.new.sender (acts ▷ Cut) told (timer_begun (layout_out self.old.sender delay peer) acts timer self.old.moment) }
+        ensures fits { result ≤ 1000 }
+        ensures good { All (λ b. b < 256) (take result out.new) }
+        ensures queued { queued_of self.new.sender.outbox ≤ queued_of self.old.sender.outbox }
+        ensures expiries { self.new.sender.timer.expiries ≡ self.old.sender.timer.expiries }
+        ensures own { self.new.sender.own ≡ self.old.sender.own }
+        ensures wait { self.new.sender.wait ≡ self.old.sender.wait }
+        ensures receiver { self.new.receiver ≡ self.old.receiver }
+        ensures moment { self.new.moment ≡ self.old.moment }
+    {
+        match out.first_chunk_mut::<1000>() {
+            Some(part) => self.sender.cut(self.moment, part),
+            None => unreachable!(),
+        }
     }
 
     /// Writes the datagram that carries an unsettled part again.
@@ -202,9 +223,35 @@ impl Udp1Core {
         let head = self
             .receiver
             .head(Some(self.sender.floor()), Some(numbers), out);
-        let mut bytes = [0; 1000];
-        let length = self.sender.resend(part, &mut bytes);
-        put_behind(head, &bytes[..length], out)
+        head + self.resend_into(part, &mut out[head..])
+    }
+
+    /// Writes an unsettled part to the front of a buffer again, and gives its length.
+    fn resend_into(&mut self, part: u64, out: &mut [u8]) -> usize
+        requires unsettled { is_unsettled self.old.sender.outbox part ≡ true }
+        requires reach { reach_of self.old.sender.outbox < 4096 }
+        requires number { next_transmission self.old.sender.outbox < 2 ^ 62 }
+        requires long { 1000 ≤ length out.old }
+        ensures bytes { (acts : Trace Act) (told : ℕ) (timer : Timer) → Speaks self.old.sender acts told timer →
+            let bytes = piece limits acts (part - self.old.sender.own) in
+            (result ≡ length bytes) × (take result out.new ≡ bytes) }
+        ensures near { (acts : Trace Act) (told : ℕ) (timer : Timer) → Speaks self.old.sender acts told timer →
+            self.old.sender.own + cuts acts ≤ part + 64 }
+        ensures stands { (acts : Trace Act) (told : ℕ) (timer : Timer) → Speaks self.old.sender acts told timer →
+            Speaks self.new.sender (acts ▷ Resent (part - self.old.sender.own)) told timer }
+        ensures fits { result ≤ 1000 }
+        ensures good { All (λ b. b < 256) (take result out.new) }
+        ensures queued { queued_of self.new.sender.outbox ≡ queued_of self.old.sender.outbox }
+        ensures timer { self.new.sender.timer ≡ self.old.sender.timer }
+        ensures own { self.new.sender.own ≡ self.old.sender.own }
+        ensures wait { self.new.sender.wait ≡ self.old.sender.wait }
+        ensures receiver { self.new.receiver ≡ self.old.receiver }
+        ensures moment { self.new.moment ≡ self.old.moment }
+    {
+        match out.first_chunk_mut::<1000>() {
+            Some(chunk) => self.sender.resend(part, chunk),
+            None => unreachable!(),
+        }
     }
 
     /// Writes a datagram that only tells what was received, where that has to be told.
@@ -225,18 +272,6 @@ impl Udp1Core {
         }
         Some(self.receiver.head(None, None, out))
     }
-}
-
-/// Writes the bytes of a part behind the head of its datagram, and gives the length of both.
-fn put_behind(head: usize, bytes: &[u8], out: &mut [u8; 1232]) -> usize
-    requires { head + length bytes.now ≤ 1232 }
-    ensures length { result ≡ head + length bytes.now }
-    ensures bytes { take result out.new ≡ take head out.old ++ bytes.now }
-    ensures good { All (λ b. b < 256) bytes.now }
-{
-    let end = head + bytes.len();
-    out[head..end].copy_from_slice(bytes);
-    end
 }
 
 /// The shortest wait of the timer, in milliseconds.
