@@ -12,6 +12,8 @@
 //! link: where it is `Ok`, the near end was given just these bytes and the far end pulled just them.
 #![tactic(auto)]
 
+ghost use Rattle.std.specs.Prelude.{◌≡◌, length, IfOk};
+
 mod copying;
 mod crossing;
 mod fault;
@@ -41,7 +43,9 @@ fn call_words(rt: &HostRuntime) -> io::Result<Vec<String>> {
 }
 
 /// So many bytes, 0 to 250 over and over.
-fn pattern(alloc: Global, count: usize) -> Result<Vec<u8>, Fault> {
+fn pattern(alloc: Global, count: usize) -> Result<Vec<u8>, Fault>
+    ensures { IfOk result (λ bytes. length bytes.items ≡ count) }
+{
     let Ok(mut bytes) = vec![in alloc; 0u8; count] else {
         return Err(Fault::NoMemory);
     };
