@@ -128,3 +128,6 @@ fn main(rt: HostRuntime) -> ExitCode {
     };
     ExitCode::from(tell(alloc, &mut out, ended))
 }
+
+#[cfg(test)]
+mod tests;
