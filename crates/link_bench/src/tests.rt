@@ -1,0 +1,51 @@
+use super::*;
+use mt_base::NoMemory;
+use std::test::*;
+
+/// What the run of these words comes to.
+fn call(alloc: Global, words: &[&str]) -> Result<Result<usize, Fault>, NoMemory> {
+    let mut list = Vec::new(alloc);
+    for word in words {
+        list.push(String::from_str(alloc, word)?)?;
+    }
+    Ok(run(alloc, &list))
+}
+
+#[test]
+fn bytes_arrive(rt: HostRuntime) -> Result<(), Fail> {
+    let rows: [(&[&str], usize); 5] = [
+        (&["core", "0", "0"], 0),
+        (&["core", "1", "50"], 1),
+        (&["core", "200500", "0"], 200_500),
+        (&["core", "200500", "5"], 200_500),
+        (&["copy", "2500", "1"], 2_500),
+    ];
+    for (words, count) in rows {
+        assert!(rt; matches!(call(rt.alloc(), words)?, Ok(arrived) if arrived == count));
+    }
+    Ok(())
+}
+
+#[test]
+fn nothing_arrives_where_all_is_lost(rt: HostRuntime) -> Result<(), Fail> {
+    let ended = call(rt.alloc(), &["core", "1", "1"])?;
+    assert!(rt; matches!(ended, Err(Fault::GaveUp)));
+    let ended = call(rt.alloc(), &["copy", "2500", "0"])?;
+    assert!(rt; matches!(ended, Err(Fault::Wrong)));
+    Ok(())
+}
+
+#[test]
+fn knows_its_words(rt: HostRuntime) -> Result<(), Fail> {
+    let rows: [&[&str]; 5] = [
+        &[],
+        &["core"],
+        &["core", "1"],
+        &["core", "x", "0"],
+        &["send", "1", "0"],
+    ];
+    for words in rows {
+        assert!(rt; matches!(call(rt.alloc(), words)?, Err(Fault::Usage)));
+    }
+    Ok(())
+}
