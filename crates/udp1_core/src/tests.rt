@@ -1,3 +1,6 @@
+mod arrival;
+mod pair;
+
 use super::*;
 use carrier::{Carrier, LinkState, Reason, Took};
 use std::test::*;
@@ -24,7 +27,9 @@ fn a_part_is_sent_again_after_half_a_second(rt: HostRuntime) {
     };
     assert!(rt; link.give(&[0x41, 0x42]).is_ok());
     assert_eq!(rt; link.queued(), 2);
-    let first = [0, 0, 0, 1, 0, 0x40, 0, 8, 0, 0, 0, 2, 0, 0, 0, 2, 0x41, 0x42];
+    let first = [
+        0, 0, 0, 1, 0, 0x40, 0, 8, 0, 0, 0, 2, 0, 0, 0, 2, 0x41, 0x42,
+    ];
     assert!(rt; sends(&mut link, 0, &first));
     assert!(rt; is_silent(&mut link, 499));
     let again = [
