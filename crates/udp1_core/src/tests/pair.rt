@@ -176,7 +176,7 @@ impl<'p, C: Carrier + Drop> End<'p, C> {
     /// Pulls all bytes that are there, and compares them with those that the other end writes.
     fn read(&mut self) {
         let mut out = [0; 1000];
-        for _pull in 0..100 {
+        for _pull in 0..10_000 {
             let count = self.link.pull(&mut out);
             for byte in &out[..count] {
                 self.is_intact &= *byte == self.reads.step();
