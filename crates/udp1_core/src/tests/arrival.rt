@@ -2,13 +2,16 @@
 
 use super::pair::{Fate, Outcome, Pair};
 use crate::Udp1Core;
-use carrier::{Carrier, PerfectCarrier};
+use carrier::{Carrier, LinkState, PerfectCarrier};
 use mt_base::NoMemory;
 use std::alloc::Global;
 use std::test::*;
 
 /// Each third datagram is lost.
 const THIRD_LOST: [Fate; 3] = [Fate::Pass, Fate::Pass, Fate::Lose];
+
+/// No datagram arrives.
+const ALL_LOST: [Fate; 1] = [Fate::Lose];
 
 /// Each datagram arrives twice.
 const ALL_TWICE: [Fate; 1] = [Fate::Twice];
@@ -138,6 +141,18 @@ fn the_shown_numbers_begin_again(rt: HostRuntime) -> Result<(), Fail> {
     let pair = two_ends(rt.alloc(), initial, &THIRD_LOST, &UNRULY)?;
     let Ending { near, far, .. } = story(pair, 130, 70)?;
     assert!(rt; is_whole(&far, &near, 130) && is_whole(&near, &far, 70));
+    Ok(())
+}
+
+#[test]
+fn a_link_closes_where_no_datagram_arrives(rt: HostRuntime) -> Result<(), Fail> {
+    let pair = two_ends(rt.alloc(), (9, 19), &ALL_LOST, &[])?;
+    let Ending { near, far, moment } = story(pair, 100, 0)?;
+    assert_eq!(rt; near.state, LinkState::Closed { expiries: 17 });
+    assert_eq!(rt; far.state, LinkState::Open);
+    // a window of parts, and the first one sixteen times more
+    assert_eq!(rt; (near.sent, near.queued, far.came), (80, 100_000, 0));
+    assert_eq!(rt; moment, 111_500);
     Ok(())
 }
 

@@ -2,7 +2,7 @@
 
 ghost use Rattle.std.specs.Prelude.{◌<◌, ◌^◌};
 
-use carrier::Carrier;
+use carrier::{Carrier, LinkState};
 use mt_base::NoMemory;
 use std::alloc::Global;
 use std::collections::VecDeque;
@@ -214,18 +214,20 @@ impl<'p, C: Carrier + Drop> End<'p, C> {
             is_intact: self.is_intact,
             sent: self.way.sent,
             queued: self.link.queued(),
+            state: self.link.state(),
         }
     }
 }
 
 /// What happened at an end: how many bytes came, and whether they are those that the other end
-/// wrote; how many datagrams were sent; and how many bytes are not settled.
+/// wrote; how many datagrams were sent; how many bytes are not settled; and what the link is.
 #[derive(Clone, Copy, Debug, PartialEq, Eq)]
 pub struct Outcome {
     pub came: usize,
     pub is_intact: bool,
     pub sent: usize,
     pub queued: usize,
+    pub state: LinkState,
 }
 
 /// Two ends with a clock of their own.

@@ -76,6 +76,7 @@ fn a_missing_part_is_told_as_missing(rt: HostRuntime) -> Result<(), Fail> {
     let mut link = Udp1Core::new(rt.alloc(), 1, 1, 0x0001)?;
     assert_eq!(rt; link.input(10, &PART_4), Took::Used);
     assert_eq!(rt; link.input(10, &PART_2), Took::Used);
+    assert_eq!(rt; link.next_due(), Some(10));
     assert!(rt; sends(&mut link, 10, &TELLS_2_AND_4));
     let mut out = [0; 6];
     assert_eq!(rt; link.pull(&mut out), 2);
@@ -104,6 +105,7 @@ fn what_lies_below_the_floor_is_not_told(rt: HostRuntime) -> Result<(), Fail> {
     ];
     assert_eq!(rt; link.input(20, &part), Took::Used);
     let told = [0, 0, 0, 4, 0, 0x40, 0, 4, 0, 1, 2, 0];
+    assert_eq!(rt; link.next_due(), Some(220));
     assert!(rt; is_silent(&mut link, 219) && sends(&mut link, 220, &told));
     Ok(())
 }
