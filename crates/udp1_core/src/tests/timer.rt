@@ -41,6 +41,23 @@ fn closes_at(link: &mut Udp1Core, moment: u32) -> bool {
 }
 
 #[test]
+fn a_part_is_sent_again_after_half_a_second(rt: HostRuntime) -> Result<(), Fail> {
+    let mut link = Udp1Core::new(rt.alloc(), 1, 1, 0x0001)?;
+    assert_eq!(rt; link.give(&[0x41, 0x42]), Ok(()));
+    let first = [
+        0, 0, 0, 1, 0, 0x40, 0, 8, 0, 0, 0, 2, 0, 0, 0, 2, 0x41, 0x42,
+    ];
+    assert!(rt; sends(&mut link, 0, &first));
+    assert_eq!(rt; (link.next_due(), link.queued()), (Some(500), 2));
+    assert!(rt; is_silent(&mut link, 499));
+    let again = [
+        0, 0, 0, 1, 0, 0x40, 1, 8, 0, 0, 0, 2, 0, 0, 0, 3, 0, 0, 0, 2, 0x41, 0x42,
+    ];
+    assert!(rt; sends(&mut link, 500, &again));
+    Ok(())
+}
+
+#[test]
 fn a_silent_peer_closes_the_link(rt: HostRuntime) -> Result<(), Fail> {
     let mut link = Udp1Core::new(rt.alloc(), 1, 1, 0x0001)?;
     assert_eq!(rt; (link.next_due(), link.state()), (None, LinkState::Open));
