@@ -13,3 +13,7 @@ pub mod Pulled
 pub mod Meant
 pub mod Whole
 pub mod Small
+pub mod Informed
+pub mod OneEnd
+pub mod Carries
+pub mod Closes

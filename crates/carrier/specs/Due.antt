@@ -1,11 +1,11 @@
 -- What a poll sends.
-use Rattle.std.specs.Prelude.{◌≡◌, ℕ, zero, suc, ◌+◌, ◌-◌, ◌<◌, ◌≤◌, Bool, true, false, not, ◌&&◌, ◌||◌, nat_le, nat_lt, max, List, [], ◌∷◌, length, if◌then◌else◌, Option, Some, None, is_some, option_map, unwrap_or}
+use Rattle.std.specs.Prelude.{◌≡◌, ℕ, ◌+◌, ◌<◌, ◌≤◌, Bool, true, false, ◌&&◌, ◌||◌, nat_le, nat_lt, max, List, [], ◌∷◌, length, if◌then◌else◌, Option, Some, None, is_some, option_map, unwrap_or}
 use Rattle.mt_base.specs.Trace.{Trace}
 use Rattle.mt_windows.specs.Sending.{Act, cuts, transmissions, reach, may_cut, lowest_or_next, passed_over, piece, next_piece, floor_transmission}
 use Rattle.carrier.specs.Entries.{Entry, moment}
 use Rattle.carrier.specs.Layout.{Layout, Datagram, Carried}
 use Rattle.carrier.specs.Receiving.{received, floor, owed, peer_window}
-use Rattle.carrier.specs.Sending.{Timer, acts, timer, expires, is_closed}
+use Rattle.carrier.specs.Sending.{acts, timer, expires, is_closed}
 
 -- ---- what is sent, with its full numbers
 

@@ -1,5 +1,5 @@
 -- What happened to a link, call by call.
-use Rattle.std.specs.Prelude.{ℕ, zero, ◌+◌, max, List, [], ◌∷◌, ◌++◌, Option, Some, None}
+use Rattle.std.specs.Prelude.{ℕ, max, List, [], ◌∷◌, ◌++◌, Option}
 use Rattle.mt_base.specs.Trace.{Trace, Start, ◌▷◌}
 use Rattle.carrier.specs.declared.state.Took.{Took}
 

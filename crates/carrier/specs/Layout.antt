@@ -1,5 +1,5 @@
 -- What the datagrams of a link show, whatever their layout.
-use Rattle.std.specs.Prelude.{◌≡◌, ℕ, ◌+◌, ◌-◌, ◌<◌, Bool, true, false, nat_le, nat_lt, List, reverse, slice_get, if◌then◌else◌, Option, Some, None, unwrap_or}
+use Rattle.std.specs.Prelude.{ℕ, ◌-◌, Bool, false, nat_le, nat_lt, List, reverse, slice_get, if◌then◌else◌, Option, Some, None, unwrap_or}
 use Rattle.mt_base.specs.Nearness.{nearest}
 use Rattle.mt_windows.specs.Sending.{Limits}
 use Rattle.mt_windows.specs.Arrived.{Parts}

@@ -1,9 +1,9 @@
 -- What is asked of a layout: it reads back what it spells, tells only what was received, and leaves
 -- room between the numbers that have the same low part.
-use Rattle.std.specs.Prelude.{◌≡◌, ℕ, ◌+◌, ◌*◌, ◌%◌, ◌<◌, ◌≤◌, Bool, true, List, length, All, if◌then◌else◌, Option, Some, None, IfSome, option_map}
+use Rattle.std.specs.Prelude.{◌≡◌, ℕ, ◌*◌, ◌%◌, ◌<◌, ◌≤◌, Bool, true, List, length, All, if◌then◌else◌, Option, Some, None, IfSome, option_map}
 use Rattle.mt_windows.specs.Arrived.{has_part}
 use Rattle.mt_windows.specs.Noted.{is_noted}
-use Rattle.carrier.specs.Layout.{Layout, Received, Reading, Shows, Shown, Load, Empty, Carries, Telling, Datagram, Carried, named_in, with_named, tells}
+use Rattle.carrier.specs.Layout.{Layout, Received, Shows, Shown, Load, Empty, Carries, Telling, Datagram, Carried, named_in, with_named, tells}
 use Rattle.carrier.specs.Receiving.{shown_in, last_told}
 
 -- ---- what a datagram shows of what it means

@@ -8,6 +8,7 @@ pub mod States
 pub mod LayoutLaw
 pub mod Joined
 pub mod TwoLinks
+pub mod Faithful
 pub mod SmallWorld
 pub mod Perfect
 pub mod PerfectThin

@@ -1,6 +1,6 @@
 -- What a link received: which datagrams have an effect, how their numbers are read, which parts are
 -- accepted and which transmissions seen, and which tellings are owed for them.
-use Rattle.std.specs.Prelude.{◌≡◌, ℕ, zero, suc, ◌+◌, ◌-◌, ◌<◌, ◌≤◌, Bool, true, false, nat_le, nat_lt, max, List, [], ◌∷◌, ◌++◌, length, replicate, if◌then◌else◌, Option, Some, None, is_some, unwrap_or}
+use Rattle.std.specs.Prelude.{ℕ, ◌+◌, ◌-◌, Bool, true, false, nat_le, nat_lt, max, List, [], ◌∷◌, ◌++◌, length, replicate, if◌then◌else◌, Option, Some, None, is_some, unwrap_or}
 use Rattle.mt_base.specs.Trace.{Trace, Start, ◌▷◌}
 use Rattle.mt_windows.specs.declared.receive.Accept.{Accept}
 use Rattle.mt_windows.specs.declared.receive.Accept.TheVariants.{New, Again, Beyond}
@@ -8,10 +8,9 @@ use Rattle.mt_windows.specs.Arrived.{Parts, drained, greatest_part, verdict, wit
 use Rattle.mt_windows.specs.Noted.{greatest_of}
 use Rattle.carrier.specs.declared.state.Took.{Took}
 use Rattle.carrier.specs.declared.state.Took.TheVariants.{Used, Ignored}
-use Rattle.carrier.specs.declared.state.Reason.{Reason}
 use Rattle.carrier.specs.declared.state.Reason.TheVariants as reason
-use Rattle.carrier.specs.Entries.{Entry, In, Polled, Pulled, Owed, moment, pulled}
-use Rattle.carrier.specs.Layout.{Layout, Received, Reading, Refuses, Shows, Shown, Load, Empty, Carries, Dummy, Correction, Telling, read_near}
+use Rattle.carrier.specs.Entries.{Entry, In, Polled, Owed, moment, pulled}
+use Rattle.carrier.specs.Layout.{Layout, Received, Reading, Refuses, Shows, Shown, Load, Empty, Carries, Dummy, Correction, read_near}
 
 -- ---- which datagrams have an effect
 

@@ -1,5 +1,5 @@
 -- What a link sent and was told, in the words of its send window, and its timer.
-use Rattle.std.specs.Prelude.{◌≡◌, ℕ, zero, suc, ◌+◌, ◌-◌, ◌*◌, ◌^◌, Bool, true, false, not, ◌==◌, ◌&&◌, nat_le, nat_lt, min, max, List, length, if◌then◌else◌, Option, Some, None, is_some}
+use Rattle.std.specs.Prelude.{ℕ, zero, suc, ◌+◌, ◌-◌, ◌*◌, ◌^◌, Bool, not, ◌==◌, ◌&&◌, nat_le, nat_lt, min, max, if◌then◌else◌, Option, Some, None, is_some}
 use Rattle.mt_base.specs.Trace.{Trace, Start, ◌▷◌}
 use Rattle.mt_base.specs.Nearness.{nearest}
 use Rattle.mt_windows.specs.Sending.{Act, Gave as GaveBytes, Cut, Resent, ToldPart, ToldTransmission, cuts, transmissions, lowest, lowest_or_next, least, is_open, settled}

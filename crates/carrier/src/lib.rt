@@ -2,7 +2,8 @@
 //! traits [`Carrier`] and [`Post`] of a reliable and of a lossy link, what they answer, and the
 //! refusals of the two datagram layouts. In `specs/` stand the entries and traces of a link, what
 //! was received and sent by them, what is due, the law that they keep, and what is asked of a
-//! layout. From that law alone follows the law of two joined ends, [`joined_links`].
+//! layout. From that law alone follows what one end keeps to, [`faithful_links`], and the law of two
+//! joined ends, [`joined_links`].
 //! [`PerfectCarrier`] and [`PerfectPost`] are links with numbered datagrams and no more, for tests
 //! and for ends that need no real link.
 //!
@@ -13,6 +14,7 @@
 #![tactic(auto)]
 
 mod byte_queue;
+mod faithful;
 mod first_layout;
 mod laws;
 mod lossy;
@@ -25,6 +27,7 @@ mod second_layout;
 mod state;
 mod two_links;
 
+pub use faithful::{faithful_links, links_close};
 pub use first_layout::Refusal1;
 pub use laws::{
     perfect_bytes_arrive, perfect_bytes_in_order, perfect_parts_arrive, perfect_parts_in_order,

@@ -16,6 +16,8 @@ fn a_cut_field_keeps_its_place(rt: HostRuntime) {
 fn the_laws_hold(_rt: HostRuntime) {
     joined_links();
     a_small_world();
+    faithful_links();
+    links_close();
 }
 
 /// Whether a link to which nothing happened is open.

@@ -5,6 +5,7 @@ ghost use Rattle.mt_base.specs.declared.kinds.Role.{Role};
 ghost use Rattle.mt_base.specs.declared.kinds.Role.TheVariants.{Client};
 ghost use Rattle.mt_base.specs.Trace.{Trace};
 ghost use Rattle.mt_windows.specs.Arrived.{passed};
+ghost use Rattle.carrier.specs.Faithful.{TellsParts};
 ghost use Rattle.carrier.specs.Joined.{Step, half};
 ghost use Rattle.carrier.specs.Layout.{Layout};
 ghost use Rattle.carrier.specs.Receiving.{accepted};
@@ -26,9 +27,11 @@ pub fn joined_links()
     ensures ahead { (late : ℕ) (layouts : Role → Layout) (w : Trace Step) → Net late layouts w → (s : Role) → CutsNear layouts w s }
 {}
 
-/// A small world meets what [`joined_links`] asks: its numbers wrap, its datagrams come in another
-/// order and twice, and one is lost; and all three parts are passed.
+/// A small world meets what [`joined_links`] asks, and its layouts what
+/// [`crate::faithful::faithful_links`] asks: its numbers wrap, its datagrams come in another order
+/// and twice, and one is lost; and all three parts are passed.
 pub fn a_small_world()
     ensures met { Net 2 small_layouts small_world }
+    ensures asks { (s : Role) → TellsParts (small_layouts s) }
     ensures passes { passed (accepted (small_layouts Client) (half Client small_world)) ≡ 10 ∷ 20 ∷ 30 ∷ [] }
 {}

@@ -1,7 +1,7 @@
 -- What the reading of each body gives: at the bytes that spell it, and at each fault.
-use Rattle.std.proofs.Common.{◌≡◌, eqb, ℕ, ◌+◌, ◌*◌, ◌^◌, ◌<◌, false, List, [], ◌∷◌, ◌++◌, length, map, Some, None, Ok, Err, refl, sym, ap, ◌∙◌, subst, arith}
+use Rattle.std.proofs.Common.{◌≡◌, eqb, ℕ, ◌+◌, ◌*◌, ◌^◌, ◌<◌, ◌≤◌, false, List, [], ◌∷◌, ◌++◌, length, map, Some, None, Ok, Err, refl, sym, ap, ◌∙◌, subst, arith}
 use Rattle.std.specs.List.{All}
-use Rattle.std.proofs.lemmas.Bool.{ne_eqb, cond-false}
+use Rattle.std.proofs.lemmas.Bool.{ne_eqb, cond-false, lt-ltb, le-ltb}
 use Rattle.std.proofs.lemmas.List.Elements.{All-head, All-tail}
 use Rattle.byteorder.specs.Endian.{little_bytes}
 use Rattle.byteorder.specs.Numbers.{length-bytes_low_first}
@@ -10,14 +10,11 @@ use Rattle.mt_base.specs.Writing.{joined}
 use Rattle.mt_base.proofs.Fronts.{left_at, byte_reads, little_reads, little_cut, big_cut}
 use Rattle.dvc_pdus.specs.declared.pdu.DvcRefusal.{DvcRefusal}
 use Rattle.dvc_pdus.specs.declared.pdu.DvcRefusal.TheVariants as refusal
-use Rattle.dvc_pdus.specs.Value.{Caps, CreateRequest, CreateResponse, Data, IsName}
-use Rattle.dvc_pdus.specs.Reading.{◌>>=◌, cut, id_at, ended, name_at, charges_at, capabilities_at, create_request_at, create_response_at, data_at}
+use Rattle.dvc_pdus.specs.Value.{Caps, CreateRequest, CreateResponse, DataFirst, Data, CompressedFirst, Compressed, Close, IsName}
+use Rattle.dvc_pdus.specs.Reading.{◌>>=◌, cut, leading_id_at, length_at, ended, name_at, charges_at, capabilities_at, create_request_at, create_response_at, within, data_first_at, data_at, compressed_first_at, compressed_at, close_at}
 use Rattle.dvc_pdus.specs.Layout.{id_in, IsSizeOf}
-use Rattle.dvc_pdus.specs.Faults.{RefusedId, RefusedName, Cut}
-use Rattle.dvc_pdus.proofs.Parts.{id_law, id_answer, name_law, name_answer, ended_none}
-
-id_reads : (size id : ℕ) → IsSizeOf size id → (n : ℕ) (rest : List ℕ) → id_at size (left_at n (id_in size id ++ rest)) ≡ Ok (id, left_at (n + length (id_in size id)) rest)
-id_reads size id h n rest = (id_law size h.0).again id (id_in size id) (h.1, refl) (left_at n (id_in size id ++ rest)) rest refl
+use Rattle.dvc_pdus.specs.Faults.{RefusedName, Cut}
+use Rattle.dvc_pdus.proofs.Parts.{id_reads, cut_id, length_as_id, leading_as_id, name_law, name_answer, ended_none}
 
 name_reads : (name : List ℕ) → IsName name → (n : ℕ) (rest : List ℕ) → name_at (left_at n ((name ++ (0 ∷ [])) ++ rest)) ≡ Ok (name, left_at (n + length (name ++ (0 ∷ []))) rest)
 name_reads name h n rest = name_law.again name (name ++ (0 ∷ [])) (h, refl) (left_at n ((name ++ (0 ∷ [])) ++ rest)) rest refl
@@ -28,9 +25,63 @@ pub data_reads : (size id : ℕ) → IsSizeOf size id → (n : ℕ) (rest : List
 unfolding data_at
 data_reads size id h n rest = rw (id_reads size id h n rest) refl
 
-pub data_id : (size : ℕ) (rest : List ℕ) (r : DvcRefusal) → RefusedId size rest r → data_at size (left_at 1 rest) ≡ Err r
-unfolding data_at
-data_id size rest r fault = rw (id_answer size rest r fault) refl
+pub compressed_reads : (size id : ℕ) → IsSizeOf size id → (n : ℕ) (rest : List ℕ) → compressed_at size (left_at n (id_in size id ++ rest)) ≡ Ok (Compressed id rest)
+unfolding compressed_at
+compressed_reads size id h n rest = rw (id_reads size id h n rest) refl
+
+-- ---- close
+
+pub close_reads : (size id : ℕ) → IsSizeOf size id → (n : ℕ) (rest : List ℕ) → close_at size (left_at n (id_in size id ++ rest)) ≡ ended (Close id) (left_at (n + length (id_in size id)) rest)
+unfolding close_at
+close_reads size id h n rest = rw (id_reads size id h n rest) refl
+
+-- ---- the first bytes of a message
+
+leading_reads : (wide size id : ℕ) → wide < 3 → IsSizeOf size id → (n : ℕ) (rest : List ℕ)
+    → leading_id_at wide size (left_at n (id_in size id ++ rest)) ≡ Ok (id, left_at (n + length (id_in size id)) rest)
+leading_reads wide size id small h n rest = leading_as_id wide size (left_at n (id_in size id ++ rest)) small ∙ id_reads size id h n rest
+
+length_reads : (wide total : ℕ) → IsSizeOf wide total → (n : ℕ) (rest : List ℕ) → length_at wide (left_at n (id_in wide total ++ rest)) ≡ Ok (total, left_at (n + length (id_in wide total)) rest)
+length_reads wide total h n rest = length_as_id wide h.0 (left_at n (id_in wide total ++ rest)) ∙ id_reads wide total h n rest
+
+pub data_first_reads : (wide size id total : ℕ) → IsSizeOf size id → IsSizeOf wide total → (n : ℕ) (rest : List ℕ)
+    → data_first_at wide size (left_at n (id_in size id ++ (id_in wide total ++ rest))) ≡ within (n + length (id_in size id)) id total rest
+unfolding data_first_at
+data_first_reads wide size id total h k n rest =
+    rw (leading_reads wide size id k.0 h n (id_in wide total ++ rest), length_reads wide total k (n + length (id_in size id)) rest) refl
+
+pub compressed_first_reads : (wide size id total : ℕ) → IsSizeOf size id → IsSizeOf wide total → (n : ℕ) (rest : List ℕ)
+    → compressed_first_at wide size (left_at n (id_in size id ++ (id_in wide total ++ rest))) ≡ Ok (CompressedFirst id total rest)
+unfolding compressed_first_at
+compressed_first_reads wide size id total h k n rest =
+    rw (leading_reads wide size id k.0 h n (id_in wide total ++ rest), length_reads wide total k (n + length (id_in size id)) rest) refl
+
+pub within_fits : (at id total : ℕ) (bytes : List ℕ) → length bytes ≤ total → within at id total bytes ≡ Ok (DataFirst id total bytes)
+unfolding within
+within_fits at id total bytes h = rw (le-ltb total (length bytes) h) refl
+
+pub within_small : (at id total : ℕ) (bytes : List ℕ) → total < length bytes → within at id total bytes ≡ Err (refusal.LengthTooSmall at)
+unfolding within
+within_small at id total bytes h = rw (lt-ltb total (length bytes) h) refl
+
+-- the place behind an id, by its size
+pub behind_id : (size id : ℕ) → 1 + 2 ^ size ≡ 1 + length (id_in size id)
+behind_id size id = ap (λ n. 1 + n) (sym (length-bytes_low_first 0 (2 ^ size) id))
+
+length_cut : (wide size id : ℕ) (rest : List ℕ) (r : DvcRefusal) → wide < 3 → Cut (1 + 2 ^ size) (2 ^ wide) rest r → length_at wide (left_at (1 + length (id_in size id)) rest) ≡ Err r
+length_cut wide size id rest r small fault =
+    length_as_id wide small (left_at (1 + length (id_in size id)) rest)
+    ∙ cut_id wide (1 + length (id_in size id)) rest r small (subst (λ n. Cut n (2 ^ wide) rest r) (behind_id size id) fault)
+
+pub data_first_length : (wide size id : ℕ) (rest : List ℕ) (r : DvcRefusal) → IsSizeOf size id → wide < 3 → Cut (1 + 2 ^ size) (2 ^ wide) rest r
+    → data_first_at wide size (left_at 1 (id_in size id ++ rest)) ≡ Err r
+unfolding data_first_at
+data_first_length wide size id rest r h small fault = rw (leading_reads wide size id small h 1 rest, length_cut wide size id rest r small fault) refl
+
+pub compressed_first_length : (wide size id : ℕ) (rest : List ℕ) (r : DvcRefusal) → IsSizeOf size id → wide < 3 → Cut (1 + 2 ^ size) (2 ^ wide) rest r
+    → compressed_first_at wide size (left_at 1 (id_in size id ++ rest)) ≡ Err r
+unfolding compressed_first_at
+compressed_first_length wide size id rest r h small fault = rw (leading_reads wide size id small h 1 rest, length_cut wide size id rest r small fault) refl
 
 -- ---- create request
 
@@ -40,14 +91,10 @@ unfolding create_request_at
 request_reads own size id name h good n rest =
     rw (id_reads size id h n ((name ++ (0 ∷ [])) ++ rest), name_reads name good (n + length (id_in size id)) rest) refl
 
-pub request_id : (own size : ℕ) (rest : List ℕ) (r : DvcRefusal) → RefusedId size rest r → create_request_at own size (left_at 1 rest) ≡ Err r
-unfolding create_request_at
-request_id own size rest r fault = rw (id_answer size rest r fault) refl
-
 pub request_name : (own size id : ℕ) (rest : List ℕ) (r : DvcRefusal) → IsSizeOf size id → RefusedName (1 + 2 ^ size) rest r → create_request_at own size (left_at 1 (id_in size id ++ rest)) ≡ Err r
 unfolding create_request_at
 request_name own size id rest r h fault =
-    let place : 1 + 2 ^ size ≡ 1 + length (id_in size id) = ap (λ n. 1 + n) (sym (length-bytes_low_first 0 (2 ^ size) id)) in
+    let place = behind_id size id in
     let name : name_at (left_at (1 + length (id_in size id)) rest) ≡ Err r = name_answer (left_at (1 + length (id_in size id)) rest) r (subst (λ n. RefusedName n rest r) place fault) in
     rw (id_reads size id h 1 rest, name) refl
 
@@ -59,14 +106,10 @@ unfolding create_response_at
 response_reads size id status h good n rest =
     rw (id_reads size id h n (little_bytes 4 status ++ rest), little_reads refusal.Short 4 status good (n + length (id_in size id)) rest) refl
 
-pub response_id : (size : ℕ) (rest : List ℕ) (r : DvcRefusal) → RefusedId size rest r → create_response_at size (left_at 1 rest) ≡ Err r
-unfolding create_response_at
-response_id size rest r fault = rw (id_answer size rest r fault) refl
-
 pub response_status : (size id : ℕ) (rest : List ℕ) (r : DvcRefusal) → IsSizeOf size id → Cut (1 + 2 ^ size) 4 rest r → create_response_at size (left_at 1 (id_in size id ++ rest)) ≡ Err r
 unfolding create_response_at
 response_status size id rest r h fault =
-    let place : 1 + 2 ^ size ≡ 1 + length (id_in size id) = ap (λ n. 1 + n) (sym (length-bytes_low_first 0 (2 ^ size) id)) in
+    let place = behind_id size id in
     let status : cut (little 4 (left_at (1 + length (id_in size id)) rest)) ≡ Err r = little_cut refusal.Short 4 (1 + length (id_in size id)) rest r (subst (λ n. Cut n 4 rest r) place fault) in
     rw (id_reads size id h 1 rest, status) refl
 

@@ -1,5 +1,13 @@
+pub mod Items
+pub mod SyncItems
 pub mod Parts
 pub mod Bodies
-pub mod Whole
+pub mod SyncBodies
+pub mod Headers
+pub mod SpelledReads
+pub mod Refusals
+pub mod Decisions
 pub mod Theorems
 pub mod Spaces
+pub mod SyncWriting
+pub mod SyncMoves

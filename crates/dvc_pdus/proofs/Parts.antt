@@ -1,4 +1,4 @@
--- Laws of the parts of a PDU: the id, the name with its zero byte, and the end.
+-- Laws of the parts of a PDU: the id, a message's length, the name with its zero byte, and the end.
 use Rattle.std.proofs.Common.{◌≡◌, ◌⊎◌, inl, inr, ℕ, zero, suc, ◌+◌, ◌-◌, ◌^◌, ◌<◌, ◌≤◌, Bool, true, false, not, ◌&&◌, cond, ltb, eqb, List, [], ◌∷◌, ◌++◌, length, take, drop, slice_index, Option, Some, None, Result, Ok, Err, refl, sym, ap, ◌∙◌, subst, arith, append_assoc}
 use Rattle.std.specs.List.{All, position_from}
 use Rattle.std.proofs.lemmas.Bool.{cases_eq, cases_lt, ltb-false, lt-ltb, le-ltb, eq-eqb, ne_eqb, and_parts, and_from, and_right, not_from_false, not-true, cases_Bool}
@@ -10,9 +10,10 @@ use Rattle.mt_base.proofs.Fields.{Field, Plainly, Refuses, CutShort, behind, fie
 use Rattle.dvc_pdus.specs.declared.pdu.DvcRefusal.{DvcRefusal}
 use Rattle.dvc_pdus.specs.declared.pdu.DvcRefusal.TheVariants as refusal
 use Rattle.dvc_pdus.specs.Value.{Pdu, IsNameByte, IsName}
-use Rattle.dvc_pdus.specs.Reading.{id_at, ended, is_name_byte, name_to, name_at}
-use Rattle.dvc_pdus.specs.Layout.{id_in}
-use Rattle.dvc_pdus.specs.Faults.{RefusedId, size_unknown, id_cut, RefusedName, wrong_byte, too_many, not_ended}
+use Rattle.dvc_pdus.specs.Reading.{id_at, leading_id_at, length_at, ended, is_name_byte, name_to, name_at}
+use Rattle.dvc_pdus.specs.Layout.{id_in, IsSizeOf}
+use Rattle.dvc_pdus.specs.Faults.{Cut, RefusedName, wrong_byte, too_many, not_ended}
+use Rattle.mt_base.proofs.Fronts.{left_at}
 
 -- ---- the id
 
@@ -28,19 +29,41 @@ pub id_law : (size : ℕ) → size < 3 → Field (id_at size) (id_in size) (λ i
 unfolding id_at
 id_law = three (λ size. Field (id_at size) (id_in size) (λ id. id < 256 ^ 2 ^ size)) (little_law refusal.Short 1) (little_law refusal.Short 2) (little_law refusal.Short 4)
 
-bad_size : (size : ℕ) (s : Left) → 3 ≤ size → id_at size s ≡ Err (refusal.BadCbId 0)
-unfolding id_at
-bad_size size s h =
-    rw (ne_eqb size 0 (λ e. omega arith), ne_eqb size 1 (λ e. omega arith), ne_eqb size 2 (λ e. omega arith)) refl
-
 cut_refused : (size : ℕ) → size < 3 → Refuses (id_at size) (CutShort refusal.Short (2 ^ size))
 unfolding id_at
 cut_refused = three (λ size. Refuses (id_at size) (CutShort refusal.Short (2 ^ size)))
     (field_refuses refusal.Short 1 _) (field_refuses refusal.Short 2 _) (field_refuses refusal.Short 4 _)
 
-pub id_answer : (size : ℕ) (bytes : List ℕ) (r : DvcRefusal) → RefusedId size bytes r → id_at size (record { at = 1; bytes = bytes }) ≡ Err r
-id_answer size bytes r (size_unknown three is) = as_err (bad_size size (record { at = 1; bytes = bytes }) (omega arith)) is
-id_answer size bytes r (id_cut small is) = (cut_refused size small).answer (record { at = 1; bytes = bytes }) r is
+pub unknown_id : (s : Left) → id_at 3 s ≡ Err (refusal.BadCbId 0)
+unfolding id_at
+unknown_id s = refl
+
+pub id_reads : (size id : ℕ) → IsSizeOf size id → (n : ℕ) (rest : List ℕ) → id_at size (left_at n (id_in size id ++ rest)) ≡ Ok (id, left_at (n + length (id_in size id)) rest)
+id_reads size id h n rest = (id_law size h.0).again id (id_in size id) (h.1, refl) (left_at n (id_in size id ++ rest)) rest refl
+
+pub cut_id : (size at : ℕ) (bytes : List ℕ) (r : DvcRefusal) → size < 3 → Cut at (2 ^ size) bytes r → id_at size (left_at at bytes) ≡ Err r
+cut_id size at bytes r small fault = (cut_refused size small).answer (left_at at bytes) r fault
+
+-- ---- the length of a message
+
+-- it is read as an id is
+pub length_as_id : (wide : ℕ) → wide < 3 → (s : Left) → length_at wide s ≡ id_at wide s
+unfolding length_at id_at
+length_as_id = three (λ wide. (s : Left) → length_at wide s ≡ id_at wide s) (λ s. refl) (λ s. refl) (λ s. refl)
+
+-- where it has a size, the id before it is read as any other
+pub leading_as_id : (wide size : ℕ) (s : Left) → wide < 3 → leading_id_at wide size s ≡ id_at size s
+unfolding leading_id_at
+leading_as_id wide size s h =
+    ap (λ t. cond t (Err (refusal.BadLen 0)) (id_at size s)) (and_right (ltb size 3) (eqb wide 3) (ne_eqb wide 3 (λ e. omega arith)))
+
+pub unknown_length : (size : ℕ) (s : Left) → size < 3 → leading_id_at 3 size s ≡ Err (refusal.BadLen 0)
+unfolding leading_id_at
+unknown_length size s h = rw (lt-ltb size 3 h) refl
+
+pub unknown_leading_id : (wide : ℕ) (s : Left) → leading_id_at wide 3 s ≡ Err (refusal.BadCbId 0)
+unfolding leading_id_at id_at
+unknown_leading_id wide s = refl
 
 -- ---- the end
 
@@ -189,19 +212,19 @@ name_answer s r (not_ended goods short r_is) =
     as_err (ap (λ o. name_to o s) none ∙ ap (λ b. cond b (Err (refusal.NameNotEnded (s.at + length s.bytes))) (Err (refusal.BadName (s.at + 255)))) test) r_is
 
 -- bytes begin with a name and its end, or a name is refused
-pub data Named (at : ℕ) (bytes : List ℕ) : Type 0 where
-  named : (name rest : List ℕ) → IsName name → bytes ≡ (name ++ (0 ∷ [])) ++ rest → Named at bytes
-  misnamed : (r : DvcRefusal) → RefusedName at bytes r → Named at bytes
+pub data NameOr (at : ℕ) (bytes : List ℕ) : Type 0 where
+  named : (name rest : List ℕ) → IsName name → bytes ≡ (name ++ (0 ∷ [])) ++ rest → NameOr at bytes
+  misnamed : (r : DvcRefusal) → RefusedName at bytes r → NameOr at bytes
 
-pub named_or : (at : ℕ) (bytes : List ℕ) → Named at bytes
+pub named_or : (at : ℕ) (bytes : List ℕ) → NameOr at bytes
 named_or at bytes = by_end (position_from (λ b. not (is_name_byte b)) 0 (take 256 bytes)) refl
   where
-    no_end : All IsNameByte (take 256 bytes) → (length bytes < 256) ⊎ (256 ≤ length bytes) → Named at bytes
+    no_end : All IsNameByte (take 256 bytes) → (length bytes < 256) ⊎ (256 ≤ length bytes) → NameOr at bytes
     no_end goods (inl h) = misnamed _ (not_ended (subst (All IsNameByte) (take_all 256 bytes (omega arith)) goods) h refl)
     no_end goods (inr h) = misnamed _ (too_many (take 256 bytes) (drop 256 bytes) goods (length-take-le 256 bytes h) (sym (take-append-drop 256 bytes)) refl)
 
     at_stop : (k : ℕ) (s : Stop (take 256 bytes) 0 k) → bytes ≡ s.good ++ (s.bad ∷ (s.rest ++ drop 256 bytes)) → length s.good < 256
-        → ((s.bad ≡ 0) × (0 < length s.good)) ⊎ (s.bad ≡ 0 → length s.good ≡ 0) → Named at bytes
+        → ((s.bad ≡ 0) × (0 < length s.good)) ⊎ (s.bad ≡ 0 → length s.good ≡ 0) → NameOr at bytes
     at_stop k s whole short (inl h) =
         named s.good (s.rest ++ drop 256 bytes) (omega arith, omega arith, s.goods)
         (whole ∙ ap (λ b. s.good ++ (b ∷ (s.rest ++ drop 256 bytes))) h.0 ∙ sym (append_assoc s.good (0 ∷ []) (s.rest ++ drop 256 bytes)))
@@ -214,7 +237,7 @@ named_or at bytes = by_end (position_from (λ b. not (is_name_byte b)) 0 (take 2
           | inr h ↦ inr (λ z. omega arith)
         ]
 
-    by_end : (o : Option ℕ) → position_from (λ b. not (is_name_byte b)) 0 (take 256 bytes) ≡ o → Named at bytes
+    by_end : (o : Option ℕ) → position_from (λ b. not (is_name_byte b)) 0 (take 256 bytes) ≡ o → NameOr at bytes
     by_end None is = no_end (all_name (take 256 bytes) 0 is) (cases_lt (length bytes) 256)
     by_end (Some k) is =
         let s = stop (take 256 bytes) 0 k is in

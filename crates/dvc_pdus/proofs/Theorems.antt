@@ -1,5 +1,5 @@
 -- What reading gives, in the words of the layouts and faults, and what follows of both.
-use Rattle.std.proofs.Common.{◌≡◌, inl, inr, ℕ, zero, suc, ◌^◌, ◌<◌, ◌≤◌, List, [], ◌∷◌, ◌++◌, length, get_or, Some, None, Result, Ok, Err, refl, sym, ap, ◌∙◌, subst, arith}
+use Rattle.std.proofs.Common.{◌≡◌, inl, inr, ℕ, zero, suc, ◌+◌, ◌*◌, ◌^◌, ◌<◌, ◌≤◌, List, [], ◌∷◌, ◌++◌, length, get_or, Some, None, Result, Ok, Err, refl, sym, ap, ◌∙◌, subst, arith}
 use Rattle.std.specs.Result.{IfOk, IfErr, IsOkAnd}
 use Rattle.std.proofs.lemmas.Bool.{cases_lt, lt-ltb, le-ltb}
 use Rattle.std.proofs.lemmas.List.{length-append}
@@ -14,14 +14,16 @@ use Rattle.mt_base.proofs.Meanings.{Meaning, was_spelled, was_fault}
 use Rattle.mt_base.proofs.Fields.{as_err, not_both, ok_is}
 use Rattle.dvc_pdus.specs.declared.pdu.DvcRefusal.{DvcRefusal}
 use Rattle.dvc_pdus.specs.declared.pdu.DvcRefusal.TheVariants as refusal
-use Rattle.dvc_pdus.specs.Value.{Pdu, Caps, CreateRequest, CreateResponse, Data, Fits, IsPdu, spelled, size_code, smallest}
+use Rattle.dvc_pdus.specs.Value.{Pdu, Caps, CreateRequest, CreateResponse, DataFirst, Data, CompressedFirst, Compressed, Close, SyncRequest, SyncResponse, Fits, IsPdu, spelled, size_code, smallest}
 use Rattle.dvc_pdus.specs.declared.pdu.DvcPdu.{DvcPdu}
 use Rattle.dvc_pdus.specs.Views.{pdu_of}
 use Rattle.dvc_pdus.specs.Reading.{pdu_at, reading, Answers}
-use Rattle.dvc_pdus.specs.Layout.{id_in, IsSizeOf, Spells, Encodes}
+use Rattle.dvc_pdus.specs.Layout.{Choice, id_in, IsSizeOf, Spells, Encodes}
 use Rattle.dvc_pdus.specs.Faults.{RefusedFields, Refused, too_long, in_fields}
-use Rattle.dvc_pdus.proofs.Whole
-use Rattle.dvc_pdus.proofs.Whole.{Decided, decided, spelled_reads, fault_answer}
+use Rattle.dvc_pdus.proofs.SpelledReads.{spelled_reads}
+use Rattle.dvc_pdus.proofs.Refusals.{fault_answer}
+use Rattle.dvc_pdus.proofs.Decisions
+use Rattle.dvc_pdus.proofs.Decisions.{Decided, decided}
 
 within : (from : Role) (bytes : List ℕ) → length bytes ≤ 1600 → reading from bytes ≡ pdu_at from (left_at 0 bytes)
 unfolding reading
@@ -37,8 +39,8 @@ fields_meaning from = record {
   reads = λ pdu bytes s. spelled_reads from bytes pdu s;
   refuses = λ r bytes fault. fault_answer from bytes r fault;
   decides = λ bytes good. elim (decided from bytes good) [
-    | Whole.spelled pdu s ↦ inl (pdu, s)
-    | Whole.refused r fault ↦ inr (r, fault)
+    | Decisions.spelled pdu s ↦ inl (pdu, s)
+    | Decisions.refused r fault ↦ inr (r, fault)
   ];
 }
 
@@ -95,26 +97,52 @@ smallest_is id fits =
       ]
     ]
 
+-- what this writer chooses: nothing but zeros beside the sizes
+abbrev chosen : ℕ → ℕ → Choice
+chosen size wide = record { size = size; wide = wide; unnamed = 0; pad = 0 }
+
 -- what a writer spells for a PDU spells it
 pub written_spells : (from : Role) (pdu : Pdu) → Fits from pdu → Spells from (spelled pdu) pdu
-written_spells from (Caps version None) fits = record { choice = record { size = 0; unnamed = 0; pad = 0 }; allowed = (omega arith, omega arith, omega arith); fits = fits; bytes_are = refl }
+written_spells from (Caps version None) fits = record { choice = chosen 0 0; allowed = (omega arith, omega arith, omega arith); fits = fits; bytes_are = refl }
 written_spells from (Caps version (Some charges)) fits =
-    record { choice = record { size = 0; unnamed = 0; pad = 0 }; allowed = (omega arith, omega arith, omega arith); fits = fits; bytes_are = refl }
+    record { choice = chosen 0 0; allowed = (omega arith, omega arith, omega arith); fits = fits; bytes_are = refl }
 written_spells Server (CreateRequest id priority name) fits =
     let s = smallest_is id fits.0 in
-    record { choice = record { size = size_code id; unnamed = 0; pad = 0 }; allowed = s.sized; fits = fits; bytes_are = rw s.bytes_are refl }
+    record { choice = chosen (size_code id) 0; allowed = s.sized; fits = fits; bytes_are = rw s.bytes_are refl }
 written_spells Client (CreateRequest id priority name) fits = absurd fits
 written_spells Server (CreateResponse id status) fits = absurd fits
 written_spells Client (CreateResponse id status) fits =
     let s = smallest_is id fits.0 in
-    record { choice = record { size = size_code id; unnamed = 0; pad = 0 }; allowed = (omega arith, s.sized); fits = fits; bytes_are = rw s.bytes_are refl }
+    record { choice = chosen (size_code id) 0; allowed = (omega arith, s.sized); fits = fits; bytes_are = rw s.bytes_are refl }
+written_spells from (DataFirst id total bytes) fits =
+    let s = smallest_is id fits.0 in
+    let t = smallest_is total fits.1 in
+    record { choice = chosen (size_code id) (size_code total); allowed = (s.sized, t.sized); fits = fits; bytes_are = rw (s.bytes_are, t.bytes_are) refl }
+written_spells from (CompressedFirst id total bytes) fits =
+    let s = smallest_is id fits.0 in
+    let t = smallest_is total fits.1 in
+    record { choice = chosen (size_code id) (size_code total); allowed = (s.sized, t.sized); fits = fits; bytes_are = rw (s.bytes_are, t.bytes_are) refl }
+written_spells from (Compressed id bytes) fits =
+    let s = smallest_is id fits.0 in
+    record { choice = chosen (size_code id) 0; allowed = (omega arith, s.sized); fits = fits; bytes_are = rw s.bytes_are refl }
+written_spells from (Close id) fits =
+    let s = smallest_is id fits in
+    record { choice = chosen (size_code id) 0; allowed = (omega arith, s.sized); fits = fits; bytes_are = rw s.bytes_are refl }
+written_spells from (SyncRequest flags tunnels lists) fits = record { choice = chosen 0 0; allowed = (omega arith, omega arith, omega arith); fits = fits; bytes_are = refl }
+written_spells from (SyncResponse types) fits = record { choice = chosen 0 0; allowed = (omega arith, omega arith, omega arith); fits = fits; bytes_are = refl }
 written_spells from (Data id bytes) fits =
     let s = smallest_is id fits.0 in
-    record { choice = record { size = size_code id; unnamed = 0; pad = 0 }; allowed = (omega arith, s.sized); fits = fits; bytes_are = rw s.bytes_are refl }
+    record { choice = chosen (size_code id) 0; allowed = (omega arith, s.sized); fits = fits; bytes_are = rw s.bytes_are refl }
 
 -- what a writer spells is read back
 pub written_is_read : (from : Role) (pdu : Pdu) → IsPdu from pdu → reading from (spelled pdu) ≡ Ok pdu
 written_is_read from pdu fits = (meaning from).reads pdu (spelled pdu) (written_spells from pdu fits.0, fits.1)
+
+-- of an id and a length, each in its smallest size, no spelling is longer than another
+first_shortest : (i t j u content : List ℕ) (a b : ℕ) (bytes : List ℕ) → length i ≤ length j → length t ≤ length u → bytes ≡ b ∷ (j ++ (u ++ (content ++ [])))
+    → length (a ∷ (i ++ (t ++ (content ++ [])))) ≤ length bytes
+first_shortest i t j u content a b bytes least narrow is =
+    omega (arith, ap length is, length-append i (t ++ (content ++ [])), length-append t (content ++ []), length-append j (u ++ (content ++ [])), length-append u (content ++ []))
 
 -- no spelling of a PDU is shorter than the writer's
 pub shortest : (from : Role) (bytes : List ℕ) (pdu : Pdu) → Spells from bytes pdu → length (spelled pdu) ≤ length bytes
@@ -128,6 +156,24 @@ shortest Server bytes (CreateResponse id status) s = absurd s.fits
 shortest Client bytes (CreateResponse id status) s =
     let least = (smallest_is id s.fits.0).least s.choice.size s.allowed.1 in
     omega (arith, ap length s.bytes_are, length-append (smallest id) (little_bytes 4 status ++ []), length-append (id_in s.choice.size id) (little_bytes 4 status ++ []))
+shortest from bytes (DataFirst id total content) s =
+    let c = s.choice in
+    let least = (smallest_is id s.fits.0).least c.size s.allowed.0 in
+    let narrow = (smallest_is total s.fits.1).least c.wide s.allowed.1 in
+    first_shortest (smallest id) (smallest total) (id_in c.size id) (id_in c.wide total) content 0x20 (2 * 16 + c.wide * 4 + c.size) bytes least narrow s.bytes_are
+shortest from bytes (CompressedFirst id total content) s =
+    let c = s.choice in
+    let least = (smallest_is id s.fits.0).least c.size s.allowed.0 in
+    let narrow = (smallest_is total s.fits.1).least c.wide s.allowed.1 in
+    first_shortest (smallest id) (smallest total) (id_in c.size id) (id_in c.wide total) content 0x60 (6 * 16 + c.wide * 4 + c.size) bytes least narrow s.bytes_are
+shortest from bytes (Compressed id content) s =
+    let least = (smallest_is id s.fits.0).least s.choice.size s.allowed.1 in
+    omega (arith, ap length s.bytes_are, length-append (smallest id) (content ++ []), length-append (id_in s.choice.size id) (content ++ []))
+shortest from bytes (Close id) s =
+    let least = (smallest_is id s.fits).least s.choice.size s.allowed.1 in
+    omega (arith, ap length s.bytes_are, length-append (smallest id) [], length-append (id_in s.choice.size id) [])
+shortest from bytes (SyncRequest flags tunnels lists) s = omega (arith, ap length s.bytes_are)
+shortest from bytes (SyncResponse types) s = omega (arith, ap length s.bytes_are)
 shortest from bytes (Data id content) s =
     let least = (smallest_is id s.fits.0).least s.choice.size s.allowed.1 in
     omega (arith, ap length s.bytes_are, length-append (smallest id) (content ++ []), length-append (id_in s.choice.size id) (content ++ []))

@@ -1,5 +1,7 @@
 pub mod Value
 pub mod Reading
+pub mod ListViews
 pub mod Views
 pub mod Layout
 pub mod Faults
+pub mod Moves

@@ -1,5 +1,5 @@
 //! The PDUs of dynamic virtual channels (MS-RDPEDYC section 2.2), read from and written into
-//! borrowed bytes: creating a channel, data, and capabilities.
+//! borrowed bytes: capabilities, creating and closing a channel, data, and Soft-Sync.
 //!
 //! Below it stands `mt_base` alone, with its cursor and its place for writing. What the crates
 //! above use is that [`read_dvc`] gives the PDU that bytes spell or their first fault, that
@@ -7,16 +7,26 @@
 #![tactic(auto)]
 
 mod command;
+mod fields;
 mod laws;
+mod lists;
+mod moves;
 mod pdu;
 mod read;
 mod room;
+mod sync;
+mod sync_room;
+mod sync_write;
 mod write;
 
 pub use laws::{one_meaning, reading_by_layout, written_is_read};
+pub use lists::{Ids, SyncList, SyncLists, SyncTypes};
+pub use moves::write_sync;
 pub use pdu::{DvcPdu, DvcRefusal};
 pub use read::read_dvc;
 pub use write::write_dvc;
 
+#[cfg(test)]
+mod sync_tests;
 #[cfg(test)]
 mod tests;

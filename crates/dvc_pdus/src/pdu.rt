@@ -1,5 +1,6 @@
 //! The PDUs, and why bytes are none.
 
+use crate::lists::{SyncLists, SyncTypes};
 use mt_base::Short;
 
 /// A channel PDU. Its parts are borrowed from the bytes that it was read from.
@@ -24,10 +25,44 @@ pub enum DvcPdu<'a> {
         id: u32,
         status: u32,
     },
+    /// The first bytes of a message, at most `length`, which counts those of the whole message
+    /// (section 2.2.3.1).
+    DataFirst {
+        id: u32,
+        length: u32,
+        bytes: &'a [u8],
+    },
     /// Bytes of a message (section 2.2.3.2).
     Data {
         id: u32,
         bytes: &'a [u8],
+    },
+    /// The first bytes of a compressed message, and its length before it was compressed (section
+    /// 2.2.3.3).
+    CompressedFirst {
+        id: u32,
+        length: u32,
+        bytes: &'a [u8],
+    },
+    /// Compressed bytes of a message (section 2.2.3.4).
+    Compressed {
+        id: u32,
+        bytes: &'a [u8],
+    },
+    /// Closes a channel, or answers that (section 2.2.4).
+    Close {
+        id: u32,
+    },
+    /// The server moves channels to tunnels (section 2.2.5.1). There is a list for each of the
+    /// `tunnels` where the flag 0x02 is set, and else no list.
+    SyncRequest {
+        flags: u16,
+        tunnels: u16,
+        lists: SyncLists<'a>,
+    },
+    /// The client answers a Soft-Sync request with the tunnels that it takes (section 2.2.5.2).
+    SyncResponse {
+        types: SyncTypes<'a>,
     },
 }
 
@@ -39,14 +74,22 @@ pub enum DvcRefusal {
     Short(Short),
     /// The PDU is longer than 1,600 bytes.
     TooLong { at: usize },
-    /// The command is none that this crate knows.
+    /// No PDU has this command.
     UnknownCommand { at: usize },
     /// The length of the channel id has no meaning.
     BadCbId { at: usize },
+    /// The length of a message's length has no meaning.
+    BadLen { at: usize },
     /// No zero byte ends the name.
     NameNotEnded { at: usize },
     /// A byte of the name is not of 0x20 to 0x7E, or the name is empty, or it has a 256th byte.
     BadName { at: usize },
+    /// More bytes of a message stand behind its length than that tells.
+    LengthTooSmall { at: usize },
+    /// The Length of a Soft-Sync request does not count itself and all that follows.
+    SyncLength { at: usize },
+    /// The type of a tunnel is neither 1 nor 3.
+    BadTunnelType { at: usize },
     /// A byte stands after the last field.
     Trailing { at: usize },
 }

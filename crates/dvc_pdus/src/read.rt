@@ -3,14 +3,16 @@
 ghost use Rattle.std.specs.Prelude.{◌≡◌, ◌+◌, ◌<◌, ◌≤◌, ◌^◌, length, take, IfSome, IfOk, IfErr, IsOkAnd, ℕ, not};
 ghost use Rattle.std.specs.List.{position_from};
 ghost use Rattle.mt_base.specs.CursorView.{left};
-ghost use Rattle.dvc_pdus.specs.Reading.{Reads, Answers, id_at, ended, is_name_byte, name_to, name_at, charges_at, capabilities_at, create_request_at, create_response_at, data_at, body_at, pdu_at, reading};
+ghost use Rattle.dvc_pdus.specs.Reading.{Reads, Answers, is_name_byte, name_to, name_at, charges_at, capabilities_at, create_request_at, create_response_at, within, data_first_at, data_at, compressed_first_at, compressed_at, close_at, body_at, pdu_at, reading};
 ghost use Rattle.dvc_pdus.specs.Value.{Pdu};
 ghost use Rattle.dvc_pdus.specs.Layout.{Encodes};
 ghost use Rattle.dvc_pdus.specs.Faults.{Refused};
 ghost use Rattle.dvc_pdus.specs.Views.{pdu_of};
 
 use crate::command::Command;
+use crate::fields::{ended, id, leading_id, length};
 use crate::pdu::{DvcPdu, DvcRefusal};
+use crate::sync::{sync_request, sync_response};
 use mt_base::{Cursor, Role};
 
 /// The bytes that a PDU has at most.
@@ -18,30 +20,6 @@ const LIMIT: usize = 1600;
 
 /// The bytes that a name has at most, with the zero byte that ends it.
 const NAME_LIMIT: usize = 256;
-
-/// A channel id, in the size that the header byte tells.
-#[tactic(auto, unfolding(crate::specs::Reading::id_at))]
-fn id(from: &mut Cursor<'_>, size: u8) -> Result<u32, DvcRefusal>
-    ensures { Reads (λ x. x) (left from.new) result (id_at size (left from.old)) }
-{
-    match size {
-        0 => Ok(u32::from(from.u8()?)),
-        1 => Ok(u32::from(from.u16_le()?)),
-        2 => Ok(from.u32_le()?),
-        _ => Err(DvcRefusal::BadCbId { at: 0 }),
-    }
-}
-
-/// The PDU, where nothing stands behind its last field.
-#[tactic(auto, unfolding(crate::specs::Reading::ended))]
-fn ended<'a>(from: &Cursor<'a>, pdu: DvcPdu<'a>) -> Result<DvcPdu<'a>, DvcRefusal>
-    ensures { Answers pdu_of result (ended (pdu_of pdu.entry) (left from.now)) }
-{
-    if !from.rest().is_empty() {
-        return Err(DvcRefusal::Trailing { at: from.at() });
-    }
-    Ok(pdu)
-}
 
 /// The place of the first byte that is none of a name, among those where a name can end.
 fn name_end(bytes: &[u8]) -> Option<usize>
@@ -143,6 +121,28 @@ fn create_response<'a>(from: &mut Cursor<'a>, size: u8) -> Result<DvcPdu<'a>, Dv
     ended(from, DvcPdu::CreateResponse { id, status })
 }
 
+/// The first bytes of a message, where they are no more than it has. Its length stands at `at`.
+#[tactic(auto, unfolding(crate::specs::Reading::within))]
+fn within(at: usize, id: u32, length: u32, bytes: &[u8]) -> Result<DvcPdu<'_>, DvcRefusal>
+    ensures { Answers pdu_of result (within at id length bytes.now) }
+{
+    if bytes.len() as u64 > u64::from(length) {
+        return Err(DvcRefusal::LengthTooSmall { at });
+    }
+    Ok(DvcPdu::DataFirst { id, length, bytes })
+}
+
+/// What follows the header byte of the first bytes of a message.
+#[tactic(auto, unfolding(crate::specs::Reading::data_first_at))]
+fn data_first<'a>(from: &mut Cursor<'a>, wide: u8, size: u8) -> Result<DvcPdu<'a>, DvcRefusal>
+    ensures { Answers pdu_of result (data_first_at wide size (left from.old)) }
+{
+    let id = leading_id(from, wide, size)?;
+    let at = from.at();
+    let length = length(from, wide)?;
+    within(at, id, length, from.rest())
+}
+
 /// What follows the header byte of data.
 #[tactic(auto, unfolding(crate::specs::Reading::data_at))]
 fn data<'a>(from: &mut Cursor<'a>, size: u8) -> Result<DvcPdu<'a>, DvcRefusal>
@@ -153,6 +153,41 @@ fn data<'a>(from: &mut Cursor<'a>, size: u8) -> Result<DvcPdu<'a>, DvcRefusal>
         id,
         bytes: from.rest(),
     })
+}
+
+/// What follows the header byte of the first bytes of a compressed message.
+#[tactic(auto, unfolding(crate::specs::Reading::compressed_first_at))]
+fn compressed_first<'a>(from: &mut Cursor<'a>, wide: u8, size: u8) -> Result<DvcPdu<'a>, DvcRefusal>
+    ensures { Answers pdu_of result (compressed_first_at wide size (left from.old)) }
+{
+    let id = leading_id(from, wide, size)?;
+    let length = length(from, wide)?;
+    Ok(DvcPdu::CompressedFirst {
+        id,
+        length,
+        bytes: from.rest(),
+    })
+}
+
+/// What follows the header byte of compressed data.
+#[tactic(auto, unfolding(crate::specs::Reading::compressed_at))]
+fn compressed<'a>(from: &mut Cursor<'a>, size: u8) -> Result<DvcPdu<'a>, DvcRefusal>
+    ensures { Answers pdu_of result (compressed_at size (left from.old)) }
+{
+    let id = id(from, size)?;
+    Ok(DvcPdu::Compressed {
+        id,
+        bytes: from.rest(),
+    })
+}
+
+/// What follows the header byte of a close.
+#[tactic(auto, unfolding(crate::specs::Reading::close_at))]
+fn close<'a>(from: &mut Cursor<'a>, size: u8) -> Result<DvcPdu<'a>, DvcRefusal>
+    ensures { Answers pdu_of result (close_at size (left from.old)) }
+{
+    let id = id(from, size)?;
+    ended(from, DvcPdu::Close { id })
 }
 
 /// What follows the header byte. `own` are its two bits of the command's own.
@@ -170,8 +205,14 @@ fn body<'a>(
         (None, _) => Err(DvcRefusal::UnknownCommand { at: 0 }),
         (Some(Command::Create), Role::Server) => create_request(from, own, size),
         (Some(Command::Create), Role::Client) => create_response(from, size),
+        (Some(Command::DataFirst), _) => data_first(from, own, size),
         (Some(Command::Data), _) => data(from, size),
+        (Some(Command::Close), _) => close(from, size),
         (Some(Command::Capabilities), _) => capabilities(from),
+        (Some(Command::CompressedFirst), _) => compressed_first(from, own, size),
+        (Some(Command::Compressed), _) => compressed(from, size),
+        (Some(Command::SyncRequest), _) => sync_request(from),
+        (Some(Command::SyncResponse), _) => sync_response(from),
     }
 }
 

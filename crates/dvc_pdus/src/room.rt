@@ -7,15 +7,16 @@ ghost use Rattle.dvc_pdus.specs.Value.{fields, smallest, charge_fields};
 ghost use Rattle.dvc_pdus.specs.Views.{pdu_of};
 
 use crate::pdu::DvcPdu;
+use crate::sync_room::{pass_lists, pass_sync};
 use mt_base::{NoRoom, Room};
 
-/// Passes over an id in the smallest size that it fits.
-fn pass_id(room: &mut Room, id: u32) -> Result<(), NoRoom>
-    ensures { Passes (space room.new) result (pass (length (smallest id)) (space room.old)) }
+/// Passes over an id or a length in the smallest size that it fits.
+fn pass_smallest(room: &mut Room, number: u32) -> Result<(), NoRoom>
+    ensures { Passes (space room.new) result (pass (length (smallest number)) (space room.old)) }
 {
-    room.pass(if id < 0x100 {
+    room.pass(if number < 0x100 {
         1
-    } else if id < 0x1_0000 {
+    } else if number < 0x1_0000 {
         2
     } else {
         4
@@ -23,7 +24,7 @@ fn pass_id(room: &mut Room, id: u32) -> Result<(), NoRoom>
 }
 
 /// Passes over `count` fields of `need` bytes each.
-fn pass_each(room: &mut Room, count: usize, need: usize) -> Result<(), NoRoom>
+pub(crate) fn pass_each(room: &mut Room, count: usize, need: usize) -> Result<(), NoRoom>
     ensures { Passes (space room.new) result (passes (replicate count need) (space room.old)) }
 {
     for _ in 0..count {
@@ -44,6 +45,7 @@ fn pass_charges(room: &mut Room, charges: Option<[u16; 4]>) -> Result<(), NoRoom
 }
 
 /// Passes over the fields of a PDU.
+#[tactic(auto, using(crate::proofs::SyncWriting::type_lengths))]
 pub(crate) fn pass_pdu(room: &mut Room, pdu: &DvcPdu<'_>) -> Result<(), NoRoom>
     ensures { Passes (space room.new) result (passes (map length (fields (pdu_of pdu.now))) (space room.old)) }
 {
@@ -56,19 +58,39 @@ pub(crate) fn pass_pdu(room: &mut Room, pdu: &DvcPdu<'_>) -> Result<(), NoRoom>
         }
         DvcPdu::CreateRequest { id, name, .. } => {
             room.pass(1)?;
-            pass_id(room, id)?;
+            pass_smallest(room, id)?;
             room.pass(name.len())?;
             room.pass(1)
         }
         DvcPdu::CreateResponse { id, .. } => {
             room.pass(1)?;
-            pass_id(room, id)?;
+            pass_smallest(room, id)?;
             room.pass(4)
         }
-        DvcPdu::Data { id, bytes } => {
+        DvcPdu::DataFirst { id, length, bytes } | DvcPdu::CompressedFirst { id, length, bytes } => {
             room.pass(1)?;
-            pass_id(room, id)?;
+            pass_smallest(room, id)?;
+            pass_smallest(room, length)?;
             room.pass(bytes.len())
+        }
+        DvcPdu::Data { id, bytes } | DvcPdu::Compressed { id, bytes } => {
+            room.pass(1)?;
+            pass_smallest(room, id)?;
+            room.pass(bytes.len())
+        }
+        DvcPdu::Close { id } => {
+            room.pass(1)?;
+            pass_smallest(room, id)
+        }
+        DvcPdu::SyncRequest { lists, .. } => {
+            pass_sync(room)?;
+            pass_lists(room, lists)
+        }
+        DvcPdu::SyncResponse { types } => {
+            room.pass(1)?;
+            room.pass(1)?;
+            room.pass(4)?;
+            pass_each(room, types.len(), 4)
         }
     }
 }

@@ -10,56 +10,117 @@ fn short(at: usize, need: usize) -> DvcRefusal {
     DvcRefusal::Short(Short { at, need })
 }
 
+/// The refusal of a header byte that stands alone.
+fn alone(command: u8, own: u8, size: u8) -> DvcRefusal {
+    let need = match size {
+        0 => 1,
+        1 => 2,
+        _ => 4,
+    };
+    match (command, own, size) {
+        (5 | 8 | 9, _, _) => short(1, 1),
+        (1..=4 | 6 | 7, _, 3) => DvcRefusal::BadCbId { at: 0 },
+        (2 | 6, 3, _) => DvcRefusal::BadLen { at: 0 },
+        (1..=4 | 6 | 7, _, _) => short(1, need),
+        _ => DvcRefusal::UnknownCommand { at: 0 },
+    }
+}
+
+#[test]
+fn knows_each_header_byte(rt: HostRuntime) {
+    for first in 0..=255u8 {
+        let refused = Err(alone(first / 16, first / 4 % 4, first % 4));
+        assert_eq!(rt; read_dvc(Role::Server, &[first]), refused, "at {first}");
+        assert_eq!(rt; read_dvc(Role::Client, &[first]), refused, "at {first}");
+    }
+}
+
+#[test]
+fn refuses_each_cut(rt: HostRuntime) {
+    let pdus: [(&[u8], &[(usize, usize)]); 8] = [
+        (
+            &[0x10, 1, 0, 0, 0, 0],
+            &[(0, 1), (1, 1), (2, 4), (2, 4), (2, 4), (2, 4)],
+        ),
+        (&[0x21, 1, 2, 3], &[(0, 1), (1, 2), (1, 2), (3, 1)]),
+        (
+            &[0x68, 1, 2, 3, 4, 5],
+            &[(0, 1), (1, 1), (2, 4), (2, 4), (2, 4), (2, 4)],
+        ),
+        (
+            &[0x32, 1, 2, 3, 4],
+            &[(0, 1), (1, 4), (1, 4), (1, 4), (1, 4)],
+        ),
+        (&[0x41, 1, 2], &[(0, 1), (1, 2), (1, 2)]),
+        (&[0x50, 0, 3, 0], &[(0, 1), (1, 1), (2, 2), (2, 2)]),
+        (&[0x71, 1, 2], &[(0, 1), (1, 2), (1, 2)]),
+        (
+            &[0x90, 0, 1, 0, 0, 0, 3, 0, 0, 0],
+            &[
+                (0, 1),
+                (1, 1),
+                (2, 4),
+                (2, 4),
+                (2, 4),
+                (2, 4),
+                (6, 4),
+                (6, 4),
+                (6, 4),
+                (6, 4),
+            ],
+        ),
+    ];
+    for (bytes, cuts) in pdus {
+        assert!(rt; read_dvc(Role::Client, bytes).is_ok(), "at {bytes:?}");
+        for (length, (at, need)) in cuts.iter().enumerate() {
+            let cut = bytes.get(..length).unwrap_or(&[]);
+            assert_eq!(rt;
+                read_dvc(Role::Client, cut),
+                Err(short(*at, *need)),
+                "at {cut:?}"
+            );
+        }
+    }
+}
+
 #[test]
 fn refuses_at_the_first_fault(rt: HostRuntime) {
+    let trailing = |at| DvcRefusal::Trailing { at };
+    let bad_name = |at| DvcRefusal::BadName { at };
     let from_server = [
-        (&[] as &[u8], short(0, 1)),
-        (&[0x00], DvcRefusal::UnknownCommand { at: 0 }),
-        (&[0x10], short(1, 1)),
-        (&[0x20, 1], DvcRefusal::UnknownCommand { at: 0 }),
-        (&[0x30], short(1, 1)),
-        (&[0x40, 1], DvcRefusal::UnknownCommand { at: 0 }),
-        (&[0x50], short(1, 1)),
-        (&[0x60, 1], DvcRefusal::UnknownCommand { at: 0 }),
-        (&[0x70, 1], DvcRefusal::UnknownCommand { at: 0 }),
-        (&[0x80, 1], DvcRefusal::UnknownCommand { at: 0 }),
-        (&[0x90, 1], DvcRefusal::UnknownCommand { at: 0 }),
-        (&[0xf3, 1], DvcRefusal::UnknownCommand { at: 0 }),
-        (&[0x13], DvcRefusal::BadCbId { at: 0 }),
-        (&[0x33, 1], DvcRefusal::BadCbId { at: 0 }),
-        (&[0x31, 1], short(1, 2)),
-        (&[0x32, 1, 2, 3], short(1, 4)),
+        (&[0x33u8, 1] as &[u8], DvcRefusal::BadCbId { at: 0 }),
+        (&[0x2f, 1], DvcRefusal::BadCbId { at: 0 }),
+        (&[0x2c, 1], DvcRefusal::BadLen { at: 0 }),
+        (
+            &[0x20, 1, 2, 0x61, 0x62, 0x63],
+            DvcRefusal::LengthTooSmall { at: 2 },
+        ),
+        (
+            &[0x25, 1, 0, 0, 0, 0x61],
+            DvcRefusal::LengthTooSmall { at: 3 },
+        ),
         (&[0x10, 1], DvcRefusal::NameNotEnded { at: 2 }),
-        (&[0x10, 1, 0], DvcRefusal::BadName { at: 2 }),
+        (&[0x10, 1, 0], bad_name(2)),
         (&[0x10, 1, 0x61], DvcRefusal::NameNotEnded { at: 3 }),
-        (&[0x10, 1, 0x20, 0x1f, 0], DvcRefusal::BadName { at: 3 }),
-        (&[0x11, 1, 0, 0x7e, 0x7f], DvcRefusal::BadName { at: 4 }),
-        (&[0x10, 1, 0x61, 0, 0], DvcRefusal::Trailing { at: 4 }),
-        (&[0x50, 0], short(2, 2)),
-        (&[0x50, 0, 3], short(2, 2)),
+        (&[0x10, 1, 0x20, 0x1f, 0], bad_name(3)),
+        (&[0x11, 1, 0, 0x7e, 0x7f], bad_name(4)),
+        (&[0x10, 1, 0x61, 0, 0], trailing(4)),
+        (&[0x40, 1, 0], trailing(2)),
         (&[0x50, 0, 3, 0, 1], short(4, 2)),
         (&[0x50, 0, 3, 0, 1, 2, 3], short(6, 2)),
         (&[0x50, 0, 3, 0, 1, 2, 3, 4, 5, 6, 7], short(10, 2)),
+        (&[0x50, 0, 3, 0, 1, 2, 3, 4, 5, 6, 7, 8, 9], trailing(12)),
+        (&[0x90, 0, 0, 0, 0, 0, 1], trailing(6)),
         (
-            &[0x50, 0, 3, 0, 1, 2, 3, 4, 5, 6, 7, 8, 9],
-            DvcRefusal::Trailing { at: 12 },
+            &[0x90, 0, 1, 0, 0, 0, 2, 0, 0, 0],
+            DvcRefusal::BadTunnelType { at: 6 },
         ),
     ];
     for (bytes, refusal) in from_server {
         assert_eq!(rt; read_dvc(Role::Server, bytes), Err(refusal), "at {bytes:?}");
     }
-    let from_client = [
-        (&[0x10u8] as &[u8], short(1, 1)),
-        (&[0x13], DvcRefusal::BadCbId { at: 0 }),
-        (&[0x10, 1, 0, 0, 0], short(2, 4)),
-        (&[0x12, 1, 0, 0, 0, 0, 0, 0], short(5, 4)),
-        (&[0x10, 1, 0, 0, 0, 0, 9], DvcRefusal::Trailing { at: 6 }),
-        (&[0x40, 1], DvcRefusal::UnknownCommand { at: 0 }),
-        (&[0x50, 0, 3, 0, 1], short(4, 2)),
-    ];
-    for (bytes, refusal) in from_client {
-        assert_eq!(rt; read_dvc(Role::Client, bytes), Err(refusal), "at {bytes:?}");
-    }
+    let from_client = [0x10, 1, 0, 0, 0, 0, 9];
+    assert_eq!(rt; read_dvc(Role::Client, &from_client), Err(trailing(6)));
 }
 
 #[test]
@@ -85,6 +146,18 @@ fn reads_each_pdu(rt: HostRuntime) {
             read_dvc(from, &[0x32, 1, 2, 3, 4, 0]),
             data(0x0403_0201, &[0])
         );
+        let first = |id, length, bytes| Ok(DvcPdu::DataFirst { id, length, bytes });
+        assert_eq!(rt; read_dvc(from, &[0x20, 1, 3, 0x61]), first(1, 3, b"a"));
+        assert_eq!(rt;
+            read_dvc(from, &[0x28, 1, 1, 0, 0, 0, 0x61]),
+            first(1, 1, b"a")
+        );
+        let zipped = |id, length, bytes| Ok(DvcPdu::CompressedFirst { id, length, bytes });
+        assert_eq!(rt; read_dvc(from, &[0x64, 1, 0, 0, 0x61]), zipped(1, 0, b"a"));
+        let id = 0x0201;
+        let compressed = Ok(DvcPdu::Compressed { id, bytes: b"a" });
+        assert_eq!(rt; read_dvc(from, &[0x75, 1, 2, 0x61]), compressed);
+        assert_eq!(rt; read_dvc(from, &[0x4d, 1, 2]), Ok(DvcPdu::Close { id }));
     }
 }
 
@@ -182,6 +255,21 @@ fn writes_each_pdu(rt: HostRuntime) {
         name: b"files",
     };
     assert!(rt; writes(&files, &[0x10, 1, 0x66, 0x69, 0x6c, 0x65, 0x73, 0]));
+    let first = DvcPdu::DataFirst {
+        id: 1,
+        length: 0x100,
+        bytes: b"a",
+    };
+    assert!(rt; writes(&first, &[0x24, 1, 0, 1, 0x61]));
+    let compressed_first = DvcPdu::CompressedFirst {
+        id: 0x100,
+        length: 0,
+        bytes: b"a",
+    };
+    assert!(rt; writes(&compressed_first, &[0x61, 0, 1, 0, 0x61]));
+    let compressed = DvcPdu::Compressed { id: 1, bytes: b"" };
+    assert!(rt; writes(&compressed, &[0x70, 1]));
+    assert!(rt; writes(&DvcPdu::Close { id: 1 }, &[0x40, 1]));
 }
 
 #[test]

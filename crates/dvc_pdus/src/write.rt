@@ -1,24 +1,25 @@
 //! Writing PDUs.
 
-ghost use Rattle.std.specs.Prelude.{◌≡◌, ◌+◌, ◌*◌, ◌<◌, ◌≤◌, ◌^◌, ◌++◌, [], length, drop, IfOk, IfErr, OnOk, OnErr, Err, ℕ};
+ghost use Rattle.std.specs.Prelude.{◌≡◌, ◌+◌, ◌*◌, ◌<◌, ◌≤◌, ◌^◌, ◌++◌, ◌∷◌, [], length, drop, IfOk, IfErr, OnOk, OnErr, Err, ℕ};
 ghost use Rattle.mt_base.specs.Writing.{Writes, put, puts, joined};
 ghost use Rattle.mt_base.specs.OutView.{spot};
 ghost use Rattle.mt_base.specs.declared.kinds.Role.{Role};
 ghost use Rattle.dvc_pdus.specs.Value.{Fits, fields, spelled, header, smallest, size_code, charge_fields};
 ghost use Rattle.dvc_pdus.specs.Views.{pdu_of};
 
-use crate::command::{CAPABILITIES, CREATE, DATA};
+use crate::command::{CAPABILITIES, CLOSE, COMPRESSED, COMPRESSED_FIRST, CREATE, DATA, DATA_FIRST};
 use crate::pdu::DvcPdu;
 use crate::room::pass_pdu;
+use crate::sync_write::{put_request, put_response};
 use mt_base::{NoRoom, Out, Room};
 
-/// The code of the smallest size that an id fits.
-fn size_code(id: u32) -> u8
-    ensures { result ≡ size_code id }
+/// The code of the smallest size that an id or a length fits.
+fn size_code(number: u32) -> u8
+    ensures { result ≡ size_code number }
 {
-    if id < 0x100 {
+    if number < 0x100 {
         0
-    } else if id < 0x1_0000 {
+    } else if number < 0x1_0000 {
         1
     } else {
         2
@@ -35,18 +36,29 @@ fn put_header(out: &mut Out<'_>, command: u8, own: u8, id: u32) -> Result<(), No
     out.put(&[command * 16 + own * 4 + size_code(id)])
 }
 
-/// Writes an id in the smallest size that it fits.
-fn put_id(out: &mut Out<'_>, id: u32) -> Result<(), NoRoom>
+/// Writes an id or a length in the smallest size that it fits.
+fn put_smallest(out: &mut Out<'_>, number: u32) -> Result<(), NoRoom>
     ensures same { out.new.bytes.ghost_name ≡ out.old.bytes.ghost_name }
-    ensures written { Writes (spot out.new) result (put (smallest id) (spot out.old)) }
+    ensures written { Writes (spot out.new) result (put (smallest number) (spot out.old)) }
 {
-    if id < 0x100 {
-        out.put_u8(id as u8)
-    } else if id < 0x1_0000 {
-        out.put_u16_le(id as u16)
+    if number < 0x100 {
+        out.put_u8(number as u8)
+    } else if number < 0x1_0000 {
+        out.put_u16_le(number as u16)
     } else {
-        out.put_u32_le(id)
+        out.put_u32_le(number)
     }
+}
+
+/// Writes the header byte of a message's first bytes, the id, and the length.
+fn put_first(out: &mut Out<'_>, command: u8, id: u32, length: u32) -> Result<(), NoRoom>
+    requires command { command < 16 }
+    ensures same { out.new.bytes.ghost_name ≡ out.old.bytes.ghost_name }
+    ensures written { Writes (spot out.new) result (puts (header command (size_code length) id ∷ smallest id ∷ smallest length ∷ []) (spot out.old)) }
+{
+    put_header(out, command, size_code(length), id)?;
+    put_smallest(out, id)?;
+    put_smallest(out, length)
 }
 
 /// Writes the four priority charges, where there are some.
@@ -79,20 +91,43 @@ fn put_pdu(out: &mut Out<'_>, pdu: &DvcPdu<'_>) -> Result<(), NoRoom>
         }
         DvcPdu::CreateRequest { id, priority, name } => {
             put_header(out, CREATE, priority, id)?;
-            put_id(out, id)?;
+            put_smallest(out, id)?;
             out.put(name)?;
             out.put(&[0])
         }
         DvcPdu::CreateResponse { id, status } => {
             put_header(out, CREATE, 0, id)?;
-            put_id(out, id)?;
+            put_smallest(out, id)?;
             out.put_u32_le(status)
+        }
+        DvcPdu::DataFirst { id, length, bytes } => {
+            put_first(out, DATA_FIRST, id, length)?;
+            out.put(bytes)
         }
         DvcPdu::Data { id, bytes } => {
             put_header(out, DATA, 0, id)?;
-            put_id(out, id)?;
+            put_smallest(out, id)?;
             out.put(bytes)
         }
+        DvcPdu::CompressedFirst { id, length, bytes } => {
+            put_first(out, COMPRESSED_FIRST, id, length)?;
+            out.put(bytes)
+        }
+        DvcPdu::Compressed { id, bytes } => {
+            put_header(out, COMPRESSED, 0, id)?;
+            put_smallest(out, id)?;
+            out.put(bytes)
+        }
+        DvcPdu::Close { id } => {
+            put_header(out, CLOSE, 0, id)?;
+            put_smallest(out, id)
+        }
+        DvcPdu::SyncRequest {
+            flags,
+            tunnels,
+            lists,
+        } => put_request(out, flags, tunnels, lists),
+        DvcPdu::SyncResponse { types } => put_response(out, types),
     }
 }
 
@@ -105,7 +140,8 @@ fn find_room(pdu: &DvcPdu<'_>, out: &[u8]) -> Result<(), NoRoom>
 }
 
 /// Writes a PDU at the front of `out`, and gives the number of its bytes (MS-RDPEDYC section 2.2).
-/// Ids have the smallest size that they fit, and the bits and bytes without a meaning are zero.
+/// Ids and lengths have the smallest size that they fit, and the bits and bytes without a meaning
+/// are zero.
 ///
 /// Where a field does not fit it is [`NoRoom`], with that field's place and length, and `out`
 /// stays as it was. `DvcPdu::Data { id: 1, bytes: b"abc" }` is written as `30 01 61 62 63`.

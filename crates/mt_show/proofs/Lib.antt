@@ -5,3 +5,4 @@ pub mod Taken
 pub mod Flags
 pub mod FirstWords
 pub mod OneOutput
+pub mod ChannelParts

@@ -24,17 +24,24 @@ use Rattle.tunnel_pdus.specs.Layout.{Spells as SpellsPdu, SpellsFrame}
 use Rattle.tunnel_pdus.specs.Faults.{Refused as RefusedPdu, RefusedFrame}
 use Rattle.tunnel_pdus.specs.Streams.{Front}
 use Rattle.tunnel_pdus.specs.Reading.{reading, frame_reading}
+use Rattle.mt_base.specs.declared.kinds.Role.{Role}
+use Rattle.mt_base.specs.declared.kinds.Role.TheVariants.{Server, Client}
+use Rattle.dvc_pdus.specs.declared.pdu.DvcRefusal.{DvcRefusal}
+use Rattle.dvc_pdus.specs.Value.{Pdu as ChannelPdu}
+use Rattle.dvc_pdus.specs.Layout.{Encodes}
+use Rattle.dvc_pdus.specs.Faults.{Refused as RefusedChannel}
 use Rattle.mt_show.specs.declared.asked.Asked.{Asked}
-use Rattle.mt_show.specs.declared.asked.Asked.TheVariants.{FirstLayout, SecondLayout, Tunnel, MainStream}
+use Rattle.mt_show.specs.declared.asked.Asked.TheVariants.{FirstLayout, SecondLayout, Tunnel, MainStream, Channel}
 use Rattle.mt_show.specs.declared.refusal.ShowRefusal.{ShowRefusal}
 use Rattle.mt_show.specs.declared.refusal.ShowRefusal.TheVariants.{BadLine, TooManyLines, NoMemory}
 use Rattle.mt_show.specs.Grammar.{first_word, spelled, IsAsked, Keeps, Breaks}
 use Rattle.mt_show.specs.Words.{packet_words, refusal_words}
 use Rattle.mt_show.specs.SecondWords.{second_words, second_refusal_words}
 use Rattle.mt_show.specs.StreamWords.{pdu_words, frame_words, front_words}
-use Rattle.mt_show.specs.Answer.{ShownFirst, packet, refused, ShownSecond, second_packet, second_refused, Shown, Answers, AreAnswered, FirstBroken, ShownAs}
+use Rattle.mt_show.specs.ChannelWords.{channel_words, channel_refusal_words}
+use Rattle.mt_show.specs.Answer.{ShownFirst, packet, refused, ShownSecond, second_packet, second_refused, ShownChannel, channel, channel_refused, Shown, Answers, AreAnswered, FirstBroken, ShownAs}
 use Rattle.mt_show.proofs.Lines.{kept_before}
-use Rattle.mt_show.proofs.FirstWords.{behind_first, behind_second, behind_tunnel, behind_frame, letter_is, in_parts, no_kind, no_first, no_second, no_tunnel, no_frame, long_second}
+use Rattle.mt_show.proofs.FirstWords.{behind_first, behind_second, behind_tunnel, behind_frame, channel_start, behind_channel, channel_parts, end_is, no_channel, letter_is, in_parts, no_kind, no_first, no_second, no_tunnel, no_frame, long_second}
 
 -- ---- a line keeps the grammar or breaks it
 
@@ -59,8 +66,16 @@ tell_frame : (line : List ℕ) → take 6 line ≡ codes "frame " → Told {A = 
 tell_frame line start (inl word) = inl (MainStream word.0, word.1, in_parts line (codes "frame ") (hex_text word.0) start word.2)
 tell_frame line start (inr none) = inr (no_frame line start none)
 
+tell_channel : (from : Role) (line : List ℕ) → take 11 line ≡ channel_start from → Told {A = List ℕ} IsBytes hex_text (drop 11 line) → Keeps line ⊎ Breaks line
+tell_channel from line start (inl word) = inl (Channel from word.0, word.1, channel_parts from line word.0 start word.2)
+tell_channel from line start (inr none) = inr (no_channel from line start none)
+
 begins : (n : ℕ) (line start : List ℕ) → (take n line ≡ start) ⊎ (take n line ≢ start)
 begins n line start = holds_or_not (bytes_eq (take n line) start) (bytes_eq-Decides (take n line) start)
+
+neither : (line : List ℕ) → take 11 line ≢ channel_start Server → take 11 line ≢ channel_start Client → (from : Role) → take 11 line ≢ channel_start from
+neither line e f Server = e
+neither line e f Client = f
 
 tell_stream : (line : List ℕ) → take 3 line ≢ codes "v1 " → take 3 line ≢ codes "v2 " → Keeps line ⊎ Breaks line
 tell_stream line a b =
@@ -68,7 +83,13 @@ tell_stream line a b =
       | inl start ↦ tell_tunnel line start (tell_bytes (drop 7 line))
       | inr c ↦ elim (begins 6 line (codes "frame ")) [
         | inl start ↦ tell_frame line start (tell_bytes (drop 6 line))
-        | inr d ↦ inr (no_kind line a b c d)
+        | inr d ↦ elim (begins 11 line (channel_start Server)) [
+          | inl start ↦ tell_channel Server line start (tell_bytes (drop 11 line))
+          | inr e ↦ elim (begins 11 line (channel_start Client)) [
+            | inl start ↦ tell_channel Client line start (tell_bytes (drop 11 line))
+            | inr f ↦ inr (no_kind line a b c d (neither line e f))
+          ]
+        ]
       ]
     ]
 
@@ -132,6 +153,7 @@ pub record OneMeaning : Type 0 where
   pub second : Layout (λ bytes. IsBytes bytes × (length bytes ≤ 1232)) SpellsSecond RefusedSecond
   pub tunnel : Stream SpellsPdu RefusedPdu reading
   pub frame : Stream SpellsFrame RefusedFrame frame_reading
+  pub channel_of : (from : Role) → Layout IsBytes (Encodes from) (RefusedChannel from)
 
 by_first : (bytes : List ℕ) → ((p : Packet) × Spells bytes p) ⊎ ((r : Refusal1) × Refused bytes r) → (words : List (List ℕ)) × ShownFirst bytes words
 by_first bytes (inl p) = (packet_words p.0, packet p.0 p.1 refl)
@@ -141,11 +163,16 @@ by_second : (bytes : List ℕ) → ((p : SecondPacket) × SpellsSecond bytes p) 
 by_second bytes (inl p) = (second_words p.0, second_packet p.0 p.1 refl)
 by_second bytes (inr r) = (second_refusal_words r.0, second_refused r.0 r.1 refl)
 
+by_channel : (from : Role) (bytes : List ℕ) → ((p : ChannelPdu) × Encodes from bytes p) ⊎ ((r : DvcRefusal) × RefusedChannel from bytes r) → (words : List (List ℕ)) × ShownChannel from bytes words
+by_channel from bytes (inl p) = (channel_words p.0, channel p.0 p.1 refl)
+by_channel from bytes (inr r) = (channel_refusal_words r.0, channel_refused r.0 r.1 refl)
+
 some_words : OneMeaning → (asked : Asked) → IsAsked asked → (words : List (List ℕ)) × Shown asked words
 some_words m (FirstLayout bytes) is = by_first bytes ((m.first).one_of_both bytes is)
 some_words m (SecondLayout bytes) is = by_second bytes ((m.second).one_of_both bytes is)
 some_words m (Tunnel bytes) is = (front_words pdu_words (length bytes) (reading bytes), (reading bytes, (m.tunnel).read bytes is, refl))
 some_words m (MainStream bytes) is = (front_words frame_words (length bytes) (frame_reading bytes), (frame_reading bytes, (m.frame).read bytes is, refl))
+some_words m (Channel from bytes) is = by_channel from bytes ((m.channel_of from).one_of_both bytes is)
 
 line_answer : OneMeaning → (line : List ℕ) → Keeps line → (answer : List ℕ) × Answers line answer
 line_answer m line keeps =
@@ -171,11 +198,24 @@ same_second m bytes xs ys (second_packet p s e) (second_refused r t f) = absurd 
 same_second m bytes xs ys (second_refused r s e) (second_packet q t f) = absurd ((m.second).never_both bytes q r t s)
 same_second m bytes xs ys (second_refused r s e) (second_refused q t f) = e ∙ ap second_refusal_words ((m.second).fault bytes r q s t) ∙ sym f
 
+same_channel : OneMeaning → (from : Role) (bytes : List ℕ) (xs ys : List (List ℕ)) → ShownChannel from bytes xs → ShownChannel from bytes ys → xs ≡ ys
+same_channel m from bytes xs ys (channel p s e) (channel q t f) = e ∙ ap channel_words ((m.channel_of from).value bytes p q s t) ∙ sym f
+same_channel m from bytes xs ys (channel p s e) (channel_refused r t f) = absurd ((m.channel_of from).never_both bytes p r s t)
+same_channel m from bytes xs ys (channel_refused r s e) (channel q t f) = absurd ((m.channel_of from).never_both bytes q r t s)
+same_channel m from bytes xs ys (channel_refused r s e) (channel_refused q t f) = e ∙ ap channel_refusal_words ((m.channel_of from).fault bytes r q s t) ∙ sym f
+
 same_shown : OneMeaning → (asked : Asked) → IsAsked asked → (xs ys : List (List ℕ)) → Shown asked xs → Shown asked ys → xs ≡ ys
 same_shown m (FirstLayout bytes) is xs ys s t = same_first m bytes xs ys s t
 same_shown m (SecondLayout bytes) is xs ys s t = same_second m bytes xs ys s t
 same_shown m (Tunnel bytes) is xs ys s t = s.2 ∙ ap (front_words pdu_words (length bytes)) ((m.tunnel).one bytes s.0 t.0 is s.1 t.1) ∙ sym t.2
 same_shown m (MainStream bytes) is xs ys s t = s.2 ∙ ap (front_words frame_words (length bytes)) ((m.frame).one bytes s.0 t.0 is s.1 t.1) ∙ sym t.2
+same_shown m (Channel from bytes) is xs ys s t = same_channel m from bytes xs ys s t
+
+same_channels : (line : List ℕ) (from to : Role) (xs ys : List ℕ) → IsBytes xs → IsBytes ys → line ≡ spelled (Channel from xs) → line ≡ spelled (Channel to ys) → Channel from xs ≡ Channel to ys
+same_channels line Server Server xs ys ha hb e f = ap (Channel Server) (hex_text-injective xs ys ha hb (sym (behind_channel Server line xs e) ∙ behind_channel Server line ys f))
+same_channels line Client Client xs ys ha hb e f = ap (Channel Client) (hex_text-injective xs ys ha hb (sym (behind_channel Client line xs e) ∙ behind_channel Client line ys f))
+same_channels line Server Client xs ys ha hb e f = absurd (omega (arith, end_is Server line xs e, end_is Client line ys f))
+same_channels line Client Server xs ys ha hb e f = absurd (omega (arith, end_is Client line xs e, end_is Server line ys f))
 
 same_asked : (line : List ℕ) (a b : Asked) → IsAsked a → IsAsked b → line ≡ spelled a → line ≡ spelled b → a ≡ b
 same_asked line (FirstLayout xs) (FirstLayout ys) ha hb e f =
@@ -183,21 +223,30 @@ same_asked line (FirstLayout xs) (FirstLayout ys) ha hb e f =
 same_asked line (FirstLayout xs) (SecondLayout ys) ha hb e f = absurd (omega (arith, letter_is line (FirstLayout xs) e, letter_is line (SecondLayout ys) f))
 same_asked line (FirstLayout xs) (Tunnel ys) ha hb e f = absurd (omega (arith, letter_is line (FirstLayout xs) e, letter_is line (Tunnel ys) f))
 same_asked line (FirstLayout xs) (MainStream ys) ha hb e f = absurd (omega (arith, letter_is line (FirstLayout xs) e, letter_is line (MainStream ys) f))
+same_asked line (FirstLayout xs) (Channel to ys) ha hb e f = absurd (omega (arith, letter_is line (FirstLayout xs) e, letter_is line (Channel to ys) f))
 same_asked line (SecondLayout xs) (FirstLayout ys) ha hb e f = absurd (omega (arith, letter_is line (SecondLayout xs) e, letter_is line (FirstLayout ys) f))
 same_asked line (SecondLayout xs) (SecondLayout ys) ha hb e f =
     ap SecondLayout (hex_text-injective xs ys ha.0 hb.0 (sym (behind_second line xs e) ∙ behind_second line ys f))
 same_asked line (SecondLayout xs) (Tunnel ys) ha hb e f = absurd (omega (arith, letter_is line (SecondLayout xs) e, letter_is line (Tunnel ys) f))
 same_asked line (SecondLayout xs) (MainStream ys) ha hb e f = absurd (omega (arith, letter_is line (SecondLayout xs) e, letter_is line (MainStream ys) f))
+same_asked line (SecondLayout xs) (Channel to ys) ha hb e f = absurd (omega (arith, letter_is line (SecondLayout xs) e, letter_is line (Channel to ys) f))
 same_asked line (Tunnel xs) (FirstLayout ys) ha hb e f = absurd (omega (arith, letter_is line (Tunnel xs) e, letter_is line (FirstLayout ys) f))
 same_asked line (Tunnel xs) (SecondLayout ys) ha hb e f = absurd (omega (arith, letter_is line (Tunnel xs) e, letter_is line (SecondLayout ys) f))
 same_asked line (Tunnel xs) (Tunnel ys) ha hb e f =
     ap Tunnel (hex_text-injective xs ys ha hb (sym (behind_tunnel line xs e) ∙ behind_tunnel line ys f))
 same_asked line (Tunnel xs) (MainStream ys) ha hb e f = absurd (omega (arith, letter_is line (Tunnel xs) e, letter_is line (MainStream ys) f))
+same_asked line (Tunnel xs) (Channel to ys) ha hb e f = absurd (omega (arith, letter_is line (Tunnel xs) e, letter_is line (Channel to ys) f))
 same_asked line (MainStream xs) (FirstLayout ys) ha hb e f = absurd (omega (arith, letter_is line (MainStream xs) e, letter_is line (FirstLayout ys) f))
 same_asked line (MainStream xs) (SecondLayout ys) ha hb e f = absurd (omega (arith, letter_is line (MainStream xs) e, letter_is line (SecondLayout ys) f))
 same_asked line (MainStream xs) (Tunnel ys) ha hb e f = absurd (omega (arith, letter_is line (MainStream xs) e, letter_is line (Tunnel ys) f))
 same_asked line (MainStream xs) (MainStream ys) ha hb e f =
     ap MainStream (hex_text-injective xs ys ha hb (sym (behind_frame line xs e) ∙ behind_frame line ys f))
+same_asked line (MainStream xs) (Channel to ys) ha hb e f = absurd (omega (arith, letter_is line (MainStream xs) e, letter_is line (Channel to ys) f))
+same_asked line (Channel from xs) (FirstLayout ys) ha hb e f = absurd (omega (arith, letter_is line (Channel from xs) e, letter_is line (FirstLayout ys) f))
+same_asked line (Channel from xs) (SecondLayout ys) ha hb e f = absurd (omega (arith, letter_is line (Channel from xs) e, letter_is line (SecondLayout ys) f))
+same_asked line (Channel from xs) (Tunnel ys) ha hb e f = absurd (omega (arith, letter_is line (Channel from xs) e, letter_is line (Tunnel ys) f))
+same_asked line (Channel from xs) (MainStream ys) ha hb e f = absurd (omega (arith, letter_is line (Channel from xs) e, letter_is line (MainStream ys) f))
+same_asked line (Channel from xs) (Channel to ys) ha hb e f = same_channels line from to xs ys ha hb e f
 
 same_line : OneMeaning → (line x y : List ℕ) → Answers line x → Answers line y → x ≡ y
 same_line m line x y a b =

@@ -17,14 +17,20 @@ use Rattle.tunnel_pdus.specs.Value.{Pdu, Frame}
 use Rattle.tunnel_pdus.specs.Layout.{Spells as SpellsPdu, SpellsFrame}
 use Rattle.tunnel_pdus.specs.Faults.{Refused as RefusedPdu, RefusedFrame}
 use Rattle.tunnel_pdus.specs.Streams.{Front}
+use Rattle.mt_base.specs.declared.kinds.Role.{Role}
+use Rattle.dvc_pdus.specs.declared.pdu.DvcRefusal.{DvcRefusal}
+use Rattle.dvc_pdus.specs.Value.{Pdu as ChannelPdu}
+use Rattle.dvc_pdus.specs.Layout.{Encodes}
+use Rattle.dvc_pdus.specs.Faults.{Refused as RefusedChannel}
 use Rattle.mt_show.specs.declared.asked.Asked.{Asked}
-use Rattle.mt_show.specs.declared.asked.Asked.TheVariants.{FirstLayout, SecondLayout, Tunnel, MainStream}
+use Rattle.mt_show.specs.declared.asked.Asked.TheVariants.{FirstLayout, SecondLayout, Tunnel, MainStream, Channel}
 use Rattle.mt_show.specs.declared.refusal.ShowRefusal.{ShowRefusal}
 use Rattle.mt_show.specs.declared.refusal.ShowRefusal.TheVariants.{BadLine, TooManyLines, NoMemory}
 use Rattle.mt_show.specs.Grammar.{first_word, spelled, IsAsked, Keeps, Breaks}
 use Rattle.mt_show.specs.Words.{packet_words, refusal_words}
 use Rattle.mt_show.specs.SecondWords.{second_words, second_refusal_words}
 use Rattle.mt_show.specs.StreamWords.{pdu_words, frame_words, front_words}
+use Rattle.mt_show.specs.ChannelWords.{channel_words, channel_refusal_words}
 
 -- bytes as a datagram of the first layout: the packet that they spell, or their first fault
 pub data ShownFirst (bytes : List ℕ) (words : List (List ℕ)) : Type 0 where
@@ -45,12 +51,18 @@ abbrev pub ShownFrame : List ℕ → List (List ℕ) → Type 0
 ShownFrame bytes words =
     (front : Result (Part Frame) TunnelRefusal) × Front SpellsFrame RefusedFrame bytes front × (words ≡ front_words frame_words (length bytes) front)
 
+-- bytes as a channel PDU of this end: the PDU that they are, or their first fault
+pub data ShownChannel (from : Role) (bytes : List ℕ) (words : List (List ℕ)) : Type 0 where
+  channel : (p : ChannelPdu) → Encodes from bytes p → words ≡ channel_words p → ShownChannel from bytes words
+  channel_refused : (r : DvcRefusal) → RefusedChannel from bytes r → words ≡ channel_refusal_words r → ShownChannel from bytes words
+
 -- these words are shown of what was asked for
 abbrev pub Shown : Asked → List (List ℕ) → Type 0
 Shown (FirstLayout bytes) words = ShownFirst bytes words
 Shown (SecondLayout bytes) words = ShownSecond bytes words
 Shown (Tunnel bytes) words = ShownTunnel bytes words
 Shown (MainStream bytes) words = ShownFrame bytes words
+Shown (Channel from bytes) words = ShownChannel from bytes words
 
 -- A line keeps the grammar, and this is its answer: its first word and the words that are shown,
 -- with one blank between each two.

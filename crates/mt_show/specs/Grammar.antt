@@ -1,9 +1,9 @@
 -- What a line of a show file asks for, and how it is spelled.
 use Rattle.std.specs.Prelude.{◌≡◌, ◌≢◌, ◌≤◌, ℕ, List, [], ◌∷◌, length, codes}
 use Rattle.std.specs.List.{join_with_byte}
-use Rattle.mt_script.specs.Spelling.{IsBytes, hex_text}
+use Rattle.mt_script.specs.Spelling.{IsBytes, hex_text, side_name}
 use Rattle.mt_show.specs.declared.asked.Asked.{Asked}
-use Rattle.mt_show.specs.declared.asked.Asked.TheVariants.{FirstLayout, SecondLayout, Tunnel, MainStream}
+use Rattle.mt_show.specs.declared.asked.Asked.TheVariants.{FirstLayout, SecondLayout, Tunnel, MainStream, Channel}
 
 -- the word that a line begins with, and its answer too
 abbrev pub first_word : Asked → List ℕ
@@ -11,6 +11,7 @@ first_word (FirstLayout bytes) = codes "v1"
 first_word (SecondLayout bytes) = codes "v2"
 first_word (Tunnel bytes) = codes "tunnel"
 first_word (MainStream bytes) = codes "frame"
+first_word (Channel from bytes) = codes "dvc"
 
 -- the words of a line
 abbrev pub words_of : Asked → List (List ℕ)
@@ -18,6 +19,7 @@ words_of (FirstLayout bytes) = codes "v1" ∷ hex_text bytes ∷ []
 words_of (SecondLayout bytes) = codes "v2" ∷ hex_text bytes ∷ []
 words_of (Tunnel bytes) = codes "tunnel" ∷ hex_text bytes ∷ []
 words_of (MainStream bytes) = codes "frame" ∷ hex_text bytes ∷ []
+words_of (Channel from bytes) = codes "dvc" ∷ side_name from ∷ hex_text bytes ∷ []
 
 -- the line: its words, with one blank between each two
 abbrev pub spelled : Asked → List ℕ
@@ -30,6 +32,7 @@ IsAsked (FirstLayout bytes) = IsBytes bytes
 IsAsked (SecondLayout bytes) = IsBytes bytes × (length bytes ≤ 1232)
 IsAsked (Tunnel bytes) = IsBytes bytes
 IsAsked (MainStream bytes) = IsBytes bytes
+IsAsked (Channel from bytes) = IsBytes bytes
 
 -- a line keeps the grammar, or breaks it
 abbrev pub Keeps : List ℕ → Type 0

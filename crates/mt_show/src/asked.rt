@@ -1,9 +1,10 @@
 //! What a line of a show file asks for.
 
-ghost use Rattle.std.specs.Prelude.{◌++◌, codes, IfOk};
+ghost use Rattle.std.specs.Prelude.{◌++◌, ◌∷◌, codes, IfOk};
+ghost use Rattle.mt_script.specs.Spelling.{side_name};
 ghost use Rattle.mt_show.specs.Steps.{Asks};
 
-use mt_base::NoMemory;
+use mt_base::{NoMemory, Role};
 use mt_script::{Text, hex_bytes};
 use std::alloc::Global;
 
@@ -22,6 +23,9 @@ pub(crate) enum Asked {
     Tunnel { bytes: Text },
     /// `frame HEX`: the bytes as the front of the main stream.
     MainStream { bytes: Text },
+    /// `dvc server HEX` or `dvc client HEX`: the bytes as a channel PDU that this end wrote
+    /// (MS-RDPEDYC section 2.2).
+    Channel { from: Role, bytes: Text },
 }
 
 /// What a line asks for, `None` where it is none of a show file.
@@ -39,6 +43,12 @@ pub(crate) fn read_line(alloc: Global, line: &[u8]) -> Result<Option<Asked>, NoM
     }
     if let Some(word) = line.strip_prefix(b"frame ".as_slice()) {
         return main_stream(alloc, word);
+    }
+    if let Some(word) = line.strip_prefix(b"dvc server ".as_slice()) {
+        return channel(alloc, Role::Server, word);
+    }
+    if let Some(word) = line.strip_prefix(b"dvc client ".as_slice()) {
+        return channel(alloc, Role::Client, word);
     }
     Ok(None)
 }
@@ -87,6 +97,17 @@ fn main_stream(alloc: Global, word: &[u8]) -> Result<Option<Asked>, NoMemory>
 {
     match hex_bytes(alloc, word) {
         Ok(Some(bytes)) => Ok(Some(Asked::MainStream { bytes })),
+        Ok(None) => Ok(None),
+        Err(NoMemory) => Err(NoMemory),
+    }
+}
+
+/// What a line asks for that has this behind `dvc ` and the end that wrote the PDU.
+fn channel(alloc: Global, from: Role, word: &[u8]) -> Result<Option<Asked>, NoMemory>
+    ensures { IfOk result (Asks (codes "dvc " ++ (side_name from ++ (32 ∷ word.now)))) }
+{
+    match hex_bytes(alloc, word) {
+        Ok(Some(bytes)) => Ok(Some(Asked::Channel { from, bytes })),
         Ok(None) => Ok(None),
         Err(NoMemory) => Err(NoMemory),
     }

@@ -20,4 +20,5 @@ pub fn one_output()
     udp2_packets::one_meaning();
     tunnel_meaning();
     frame_meaning();
+    dvc_pdus::one_meaning();
 }

@@ -118,7 +118,7 @@ fn answers_each_line(rt: HostRuntime) -> Result<(), Fail> {
 
 #[test]
 fn refuses_other_lines(rt: HostRuntime) -> Result<(), Fail> {
-    let rows: [(&[u8], u64); 13] = [
+    let rows: [(&[u8], u64); 16] = [
         (b"\n", 1),
         (b"# a comment\n", 1),
         (b"v1\n", 1),
@@ -131,6 +131,9 @@ fn refuses_other_lines(rt: HostRuntime) -> Result<(), Fail> {
         (b"v1 00\r\n", 1),
         (b"v3 00\n", 1),
         (b"v2 0\n", 1),
+        (b"dvc 3001\n", 1),
+        (b"dvc peer 3001\n", 1),
+        (b"dvc server\n", 1),
         (b"v1 -\nv1 00\nplay\n\n", 3),
     ];
     for (text, line) in rows {
@@ -209,6 +212,88 @@ fn shows_streams(rt: HostRuntime) -> Result<(), Fail> {
             b"frame 01180007000000030000",
             b"frame refused BadProtocol at 7\n",
         ),
+    ];
+    for (line, answer) in rows {
+        assert_eq!(rt; show(rt.alloc(), line)?.bytes(), answer);
+    }
+    Ok(())
+}
+
+#[test]
+fn shows_channel_pdus(rt: HostRuntime) -> Result<(), Fail> {
+    let rows: [(&[u8], &[u8]); 19] = [
+        (b"dvc client 50000300", b"dvc caps version=3\n"),
+        (
+            b"dvc server 500003000000000001000a00",
+            b"dvc caps version=3 charges=0,0,1,10\n",
+        ),
+        (
+            b"dvc server 1c0166696c657300",
+            b"dvc create id=1 name=files\n",
+        ),
+        (
+            b"dvc client 100105000780",
+            b"dvc answer id=1 status=80070005\n",
+        ),
+        (
+            b"dvc server 24010001616263",
+            b"dvc first id=1 length=256 bytes=616263\n",
+        ),
+        (b"dvc client 3001", b"dvc data id=1 bytes=-\n"),
+        (
+            b"dvc server 6101000061",
+            b"dvc zfirst id=1 length=0 bytes=61\n",
+        ),
+        (b"dvc server 700161", b"dvc zdata id=1 bytes=61\n"),
+        (b"dvc client 42ffffffff", b"dvc close id=4294967295\n"),
+        (
+            b"dvc server 8000120000000300010001000000010007000000",
+            b"dvc sync flags=0003 tunnels=1 reliable=7\n",
+        ),
+        (
+            b"dvc client 80001c00000002000200030000000000010000000200070000000800ffff",
+            b"dvc sync flags=0002 tunnels=2 lossy=- reliable=7,4294901768\n",
+        ),
+        (
+            b"dvc server 80000800000001000900",
+            b"dvc sync flags=0001 tunnels=9\n",
+        ),
+        (
+            b"dvc client 90000100000001000000",
+            b"dvc syncanswer reliable\n",
+        ),
+        (
+            b"dvc server 9000020000000300000001000000",
+            b"dvc syncanswer lossy reliable\n",
+        ),
+        (b"dvc client 900000000000", b"dvc syncanswer\n"),
+        (b"dvc server 30", b"dvc refused Short at 1\n"),
+        (b"dvc server 13", b"dvc refused BadCbId at 0\n"),
+        (
+            b"dvc server 200102616263",
+            b"dvc refused LengthTooSmall at 2\n",
+        ),
+        (b"dvc client -", b"dvc refused Short at 0\n"),
+    ];
+    for (line, answer) in rows {
+        assert_eq!(rt; show(rt.alloc(), line)?.bytes(), answer);
+    }
+    Ok(())
+}
+
+#[test]
+fn names_each_fault_of_a_channel_pdu(rt: HostRuntime) -> Result<(), Fail> {
+    let rows: [(&[u8], &[u8]); 7] = [
+        (b"dvc server 00", b"dvc refused UnknownCommand at 0\n"),
+        (b"dvc server 2c01", b"dvc refused BadLen at 0\n"),
+        (b"dvc server 1001", b"dvc refused NameNotEnded at 2\n"),
+        (b"dvc server 100100", b"dvc refused BadName at 2\n"),
+        (b"dvc server 800000000000", b"dvc refused SyncLength at 2\n"),
+        (
+            b"dvc client 90000100000002000000",
+            b"dvc refused BadTunnelType at 6\n",
+        ),
+        (b"dvc client 400100", b"dvc refused Trailing at 2\n"),
     ];
     for (line, answer) in rows {
         assert_eq!(rt; show(rt.alloc(), line)?.bytes(), answer);

@@ -2,18 +2,20 @@
 
 ghost use Rattle.std.specs.Prelude.{◌≤◌, length, OnOk};
 ghost use Rattle.mt_script.specs.Meaning.{IsShort};
-ghost use Rattle.mt_show.specs.declared.asked.Asked.TheVariants.{FirstLayout, SecondLayout, Tunnel, MainStream};
+ghost use Rattle.mt_show.specs.declared.asked.Asked.TheVariants.{FirstLayout, SecondLayout, Tunnel, MainStream, Channel};
 ghost use Rattle.mt_show.specs.Grammar.{IsAsked};
 ghost use Rattle.mt_show.specs.Answer.{Shows};
 ghost use Rattle.mt_show.specs.Steps.{AddsShown, AddsAnswer, AddsLine};
 
 use crate::asked::{Asked, read_line};
+use crate::channels::{channel_pdu, channel_refusal};
 use crate::output::Output;
 use crate::packets::{packet, refusal};
 use crate::refusal::ShowRefusal;
 use crate::second::{second_packet, second_refusal};
 use crate::streams::{frame_front, tunnel_front};
-use mt_base::NoMemory;
+use dvc_pdus::read_dvc;
+use mt_base::{NoMemory, Role};
 use mt_script::{LINE_LIMIT, Text, count_lines, cut_line};
 use std::alloc::Global;
 use tunnel_pdus::{read_frame, read_tunnel};
@@ -88,6 +90,7 @@ fn shown(out: &mut Output, asked: &Asked) -> Result<(), NoMemory>
         Asked::SecondLayout { bytes } => show_second(out, bytes.bytes()),
         Asked::Tunnel { bytes } => show_tunnel(out, bytes.bytes()),
         Asked::MainStream { bytes } => show_frame(out, bytes.bytes()),
+        Asked::Channel { from, bytes } => show_channel(out, *from, bytes.bytes()),
     }
 }
 
@@ -132,5 +135,17 @@ fn show_frame(out: &mut Output, bytes: &[u8]) -> Result<(), NoMemory>
 {
     out.put(b"frame")?;
     frame_front(out, bytes.len(), read_frame(bytes))?;
+    Ok(())
+}
+
+/// Adds bytes as a channel PDU of this end.
+fn show_channel(out: &mut Output, from: Role, bytes: &[u8]) -> Result<(), NoMemory>
+    ensures { OnOk result (AddsShown (Channel from bytes.now) out.old.bytes.items out.new.bytes.items) }
+{
+    out.put(b"dvc")?;
+    match read_dvc(from, bytes) {
+        Ok(spelled) => channel_pdu(out, spelled)?,
+        Err(fault) => channel_refusal(out, fault)?,
+    }
     Ok(())
 }

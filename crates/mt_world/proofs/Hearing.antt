@@ -7,7 +7,7 @@ use Rattle.mt_base.specs.Ends.{other}
 use Rattle.mt_base.specs.Trace.{Trace, Start, ◌▷◌}
 use Rattle.dvc_pdus.specs.Value.{Pdu, IsPdu, spelled}
 use Rattle.dvc_pdus.specs.Reading.{reading}
-use Rattle.mt_world.specs.Frames.{framed, frame_of, read_pdu}
+use Rattle.mt_world.specs.Frames.{framed, frame_of, read_pdu, IsSpoken}
 use Rattle.mt_world.specs.Acts.{Entry, Made, Opened, Sent, MainIn, MainOut, Took, Past, with_byte, with_frame, past, reads, taken}
 use Rattle.mt_world.specs.Net.{IsPrefixOf}
 use Rattle.mt_world.proofs.Fronts.{front-trans, front-same, front-append}
@@ -87,25 +87,25 @@ hear_end from pdus part byte pdu some = ap (ends_in pdus (part ++ byte ∷ [])) 
 
 -- the bytes of a PDU behind the first of them complete its frame
 hear_body : (from : Role) (pdus : List Pdu) (low high : ℕ) (before : List ℕ) (byte : ℕ) (rest : List ℕ) (pdu : Pdu)
-    → low + 256 * high ≡ length (before ++ byte ∷ rest) → reading from (before ++ byte ∷ rest) ≡ Ok pdu
+    → low + 256 * high ≡ length (before ++ byte ∷ rest) → read_pdu (reading from (before ++ byte ∷ rest)) ≡ Some pdu
     → fold (hear from) (pdus, 3 ∷ low ∷ high ∷ before) (byte ∷ rest) ≡ (pdus ++ pdu ∷ [], [])
 hear_body from pdus low high before byte [] pdu long is =
-    hear_end from pdus (3 ∷ low ∷ high ∷ before) byte pdu (whole from low high (before ++ byte ∷ []) long ∙ ap read_pdu is)
+    hear_end from pdus (3 ∷ low ∷ high ∷ before) byte pdu (whole from low high (before ++ byte ∷ []) long ∙ is)
 hear_body from pdus low high before byte (next ∷ rest) pdu long is =
     let split : before ++ byte ∷ next ∷ rest ≡ before ++ byte ∷ [] ++ next ∷ rest = sym (append_assoc before (byte ∷ []) (next ∷ rest)) in
     let short : low + 256 * high ≢ length (before ++ byte ∷ []) = omega (arith, long, length-append before (byte ∷ next ∷ rest), length-append before (byte ∷ [])) in
     ap (λ h. fold (hear from) h (next ∷ rest)) (hear_part from pdus (3 ∷ low ∷ high ∷ before) byte (not_whole from low high (before ++ byte ∷ []) short))
-    ∙ hear_body from pdus low high (before ++ byte ∷ []) next rest pdu (long ∙ ap length split) (ap (reading from) (sym split) ∙ is)
+    ∙ hear_body from pdus low high (before ++ byte ∷ []) next rest pdu (long ∙ ap length split) (ap (λ t. read_pdu (reading from t)) (sym split) ∙ is)
 
 two_bytes : (from : Role) (pdus : List Pdu) (low : ℕ) (rest : List ℕ) → fold (hear from) (pdus, []) (3 ∷ low ∷ rest) ≡ fold (hear from) (pdus, 3 ∷ low ∷ []) rest
 unfolding hear frame_of
 two_bytes from pdus low rest = refl
 
 -- a whole frame is one more PDU
-pub hear-frame : (from : Role) (pdus : List Pdu) (low high : ℕ) (text : List ℕ) (pdu : Pdu) → low + 256 * high ≡ length text → reading from text ≡ Ok pdu
+pub hear-frame : (from : Role) (pdus : List Pdu) (low high : ℕ) (text : List ℕ) (pdu : Pdu) → low + 256 * high ≡ length text → read_pdu (reading from text) ≡ Some pdu
     → fold (hear from) (pdus, []) (3 ∷ low ∷ high ∷ text) ≡ (pdus ++ pdu ∷ [], [])
 hear-frame from pdus low high [] pdu long is =
-    two_bytes from pdus low (high ∷ []) ∙ hear_end from pdus (3 ∷ low ∷ []) high pdu (whole from low high [] long ∙ ap read_pdu is)
+    two_bytes from pdus low (high ∷ []) ∙ hear_end from pdus (3 ∷ low ∷ []) high pdu (whole from low high [] long ∙ is)
 hear-frame from pdus low high (byte ∷ rest) pdu long is =
     let some : low + 256 * high ≢ length {A = ℕ} [] = omega (arith, long) in
     two_bytes from pdus low (high ∷ byte ∷ rest)
@@ -116,20 +116,20 @@ hear-frame from pdus low high (byte ∷ rest) pdu long is =
 length_is : (n : ℕ) → n < 2 ^ 16 → n % 256 + 256 * (n / 256 ^ 1 % 256) ≡ n
 length_is n small = omega arith
 
-pub hear-framed : (from : Role) (pdus : List Pdu) (pdu : Pdu) → IsPdu from pdu → reading from (spelled pdu) ≡ Ok pdu
+pub hear-framed : (from : Role) (pdus : List Pdu) (pdu : Pdu) → IsSpoken from pdu → reading from (spelled pdu) ≡ Ok pdu
     → fold (hear from) (pdus, []) (framed pdu) ≡ (pdus ++ pdu ∷ [], [])
 unfolding framed
 hear-framed from pdus pdu is back =
     let n = length (spelled pdu) in
-    let small : length (spelled pdu) < 2 ^ 16 = omega (arith, is.1) in
-    hear-frame from pdus (length (spelled pdu) % 256) (length (spelled pdu) / 256 ^ 1 % 256) (spelled pdu) pdu (length_is (length (spelled pdu)) small) back
+    let small : length (spelled pdu) < 2 ^ 16 = omega (arith, is.0.1) in
+    hear-frame from pdus (length (spelled pdu) % 256) (length (spelled pdu) / 256 ^ 1 % 256) (spelled pdu) pdu (length_is (length (spelled pdu)) small) (ap read_pdu back ∙ ap (λ b. cond b (Some pdu) None) is.1)
 
 -- what was written of PDUs is heard as these, with nothing left
-pub hear-written : (from : Role) → ((pdu : Pdu) → IsPdu from pdu → reading from (spelled pdu) ≡ Ok pdu) → (pdus more : List Pdu) → AllByRecursion (IsPdu from) more
+pub hear-written : (from : Role) → ((pdu : Pdu) → IsPdu from pdu → reading from (spelled pdu) ≡ Ok pdu) → (pdus more : List Pdu) → AllByRecursion (IsSpoken from) more
     → fold (hear from) (pdus, []) (flat_map framed more) ≡ (pdus ++ more, [])
 hear-written from back pdus [] all = ap (λ x. (x, [])) (sym (append-nil pdus))
 hear-written from back pdus (pdu ∷ more) all =
     fold-append (hear from) (pdus, []) (framed pdu) (flat_map framed more)
-    ∙ ap (λ h. fold (hear from) h (flat_map framed more)) (hear-framed from pdus pdu all.0 (back pdu all.0))
+    ∙ ap (λ h. fold (hear from) h (flat_map framed more)) (hear-framed from pdus pdu all.0 (back pdu all.0.0))
     ∙ hear-written from back (pdus ++ pdu ∷ []) more all.1
     ∙ ap (λ x. (x, [])) (append_assoc pdus (pdu ∷ []) more)

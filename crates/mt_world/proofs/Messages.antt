@@ -5,7 +5,7 @@ use Rattle.std.proofs.lemmas.Grind.{flat_map-append}
 use Rattle.mt_base.specs.declared.kinds.Role.{Role}
 use Rattle.mt_base.specs.declared.kinds.Role.TheVariants.{Server, Client}
 use Rattle.mt_base.specs.Trace.{Trace, Start, ◌▷◌}
-use Rattle.dvc_pdus.specs.Value.{Pdu, Caps, CreateRequest, CreateResponse, Data}
+use Rattle.dvc_pdus.specs.Value.{Pdu, Caps, CreateRequest, CreateResponse, DataFirst, Data, CompressedFirst, Compressed, Close, SyncRequest, SyncResponse}
 use Rattle.mt_world.specs.Acts.{Act, Began, Opens, Sends, Reads, adds, reply, outgoing, sent, delivered, message_in, reads}
 
 -- the messages of a channel in PDUs
@@ -30,6 +30,12 @@ reply_is_none id Client (Caps version charges) = refl
 reply_is_none id role (CreateRequest made priority name) = refl
 reply_is_none id role (CreateResponse made status) = refl
 reply_is_none id role (Data made bytes) = refl
+reply_is_none id role (DataFirst made total bytes) = refl
+reply_is_none id role (CompressedFirst made total bytes) = refl
+reply_is_none id role (Compressed made bytes) = refl
+reply_is_none id role (Close made) = refl
+reply_is_none id role (SyncRequest flags tunnels lists) = refl
+reply_is_none id role (SyncResponse types) = refl
 
 began_is_none : (id : ℕ) (role : Role) → messages_in id (adds Began role) ≡ []
 began_is_none id Server = refl

@@ -8,9 +8,9 @@ use Rattle.mt_base.specs.declared.kinds.Role.TheVariants.{Server, Client}
 use Rattle.mt_base.specs.Ends.{other}
 use Rattle.mt_base.specs.Trace.{Trace, Start, ◌▷◌}
 use Rattle.dvc_pdus.specs.declared.pdu.DvcRefusal.{DvcRefusal}
-use Rattle.dvc_pdus.specs.Value.{Pdu, Caps, CreateRequest, CreateResponse, Data, Fits, IsPdu, IsName, spelled, smallest}
+use Rattle.dvc_pdus.specs.Value.{Pdu, Caps, CreateRequest, CreateResponse, DataFirst, Data, CompressedFirst, Compressed, Close, SyncRequest, SyncResponse, Fits, IsPdu, IsName, spelled, smallest}
 use Rattle.dvc_pdus.specs.Reading.{reading}
-use Rattle.mt_world.specs.Frames.{frame_of, read_pdu}
+use Rattle.mt_world.specs.Frames.{frame_of, read_pdu, is_spoken, IsSpoken}
 use Rattle.mt_world.specs.Acts.{Entry, Act, Made, Opened, Sent, MainIn, MainOut, Took, Began, Opens, Sends, Past, with_act, with_byte, with_frame, past, adds, reply, outgoing}
 use Rattle.mt_world.specs.Ends.{EndTrace, IsBytes, channel_limit}
 
@@ -46,9 +46,12 @@ pub record PduLaws : Type 0 where
 
 -- what is read of a frame was spelled by an end that may write it
 read_fits : (laws : PduLaws) → (from : Role) (bytes : List ℕ) (pdu : Pdu) (answer : Result Pdu DvcRefusal) → IsBytes bytes → reading from bytes ≡ answer → read_pdu answer ≡ Some pdu → Fits from pdu
-read_fits laws from bytes pdu (Ok found) all is some =
-    let same : found ≡ pdu = cc in
-    subst (λ x. Fits from x) same (laws.fits from bytes found all is)
+read_fits laws from bytes pdu (Ok found) all is some = by_test (is_spoken found) some where
+  by_test : (b : Bool) → cond b (Some found) None ≡ Some pdu → Fits from pdu
+  by_test true h =
+      let same : found ≡ pdu = cc in
+      subst (λ x. Fits from x) same (laws.fits from bytes found all is)
+  by_test false h = cc
 read_fits laws from bytes pdu (Err refusal) all is none = cc
 
 frame_fits : (laws : PduLaws) → (from : Role) (bytes : List ℕ) (pdu : Pdu) → IsBytes bytes → frame_of from bytes ≡ Some pdu → Fits from pdu
@@ -62,24 +65,30 @@ frame_fits laws from (kind ∷ low ∷ high ∷ text) pdu all is = by_test (eqb 
   by_test false h = cc
 
 -- what an end answers to a PDU of the other end
-reply_fits : (role : Role) (pdu : Pdu) → Fits (other role) pdu → AllByRecursion (IsPdu role) (reply pdu role)
+reply_fits : (role : Role) (pdu : Pdu) → Fits (other role) pdu → AllByRecursion (IsSpoken role) (reply pdu role)
 reply_fits Server (Caps version charges) h = tt
-reply_fits Client (Caps version charges) h = ((lit< tt, lit≤ tt), tt)
+reply_fits Client (Caps version charges) h = (((lit< tt, lit≤ tt), refl), tt)
 reply_fits Server (CreateRequest id priority name) h = absurd h
-reply_fits Client (CreateRequest id priority name) h = (((h.0, lit< tt), answer_short id), tt)
+reply_fits Client (CreateRequest id priority name) h = ((((h.0, lit< tt), answer_short id), refl), tt)
 reply_fits role (CreateResponse id status) h = tt
 reply_fits role (Data id bytes) h = tt
+reply_fits role (DataFirst made total bytes) h = tt
+reply_fits role (CompressedFirst made total bytes) h = tt
+reply_fits role (Compressed made bytes) h = tt
+reply_fits role (Close made) h = tt
+reply_fits role (SyncRequest flags tunnels lists) h = tt
+reply_fits role (SyncResponse types) h = tt
 
 -- The bytes of a frame that is under way are bytes, and each PDU that was written may be sent.
 pub record IsSound (role : Role) (p : Past) : Type 0 where
   pub part : IsBytes p.part
-  pub out : AllByRecursion (IsPdu role) (outgoing role p.acts)
+  pub out : AllByRecursion (IsSpoken role) (outgoing role p.acts)
 
 frame_sound : (role : Role) (p : Past) (part : List ℕ) (read : Option Pdu) → IsBytes part → ((pdu : Pdu) → read ≡ Some pdu → Fits (other role) pdu) → IsSound role p → IsSound role (with_frame p part read)
 frame_sound role p part None all fits s = record { part = all; out = s.out }
 frame_sound role p part (Some pdu) all fits s = record {
   part = All-nil (λ b. b < 2 ^ 8);
-  out = all-append (IsPdu role) (outgoing role p.acts) (reply pdu role) s.out (reply_fits role pdu (fits pdu refl));
+  out = all-append (IsSpoken role) (outgoing role p.acts) (reply pdu role) s.out (reply_fits role pdu (fits pdu refl));
 }
 
 byte_sound : (laws : PduLaws) → (role : Role) (p : Past) (byte : ℕ) → byte < 2 ^ 8 → IsSound role p → IsSound role (with_byte role p byte)
@@ -93,11 +102,11 @@ bytes_sound laws role p [] all s = s
 bytes_sound laws role p (b ∷ bs) all s = bytes_sound laws role (with_byte role p b) bs all.1 (byte_sound laws role p b all.0 s)
 
 -- one more act of the end's own
-act_sound : (role : Role) (p : Past) (act : Act) → AllByRecursion (IsPdu role) (adds act role) → IsSound role p → IsSound role (with_act p act)
-act_sound role p act adds_fit s = record { part = s.part; out = all-append (IsPdu role) (outgoing role p.acts) (adds act role) s.out adds_fit }
+act_sound : (role : Role) (p : Past) (act : Act) → AllByRecursion (IsSpoken role) (adds act role) → IsSound role p → IsSound role (with_act p act)
+act_sound role p act adds_fit s = record { part = s.part; out = all-append (IsSpoken role) (outgoing role p.acts) (adds act role) s.out adds_fit }
 
-began_fits : (role : Role) → AllByRecursion (IsPdu role) (adds Began role)
-began_fits Server = (((lit< tt, refl, All-from_recursion (λ c. c < 2 ^ 16) (0 ∷ 0 ∷ 0 ∷ 0 ∷ []) (lit< tt, (lit< tt, (lit< tt, (lit< tt, tt))))), lit≤ tt), tt)
+began_fits : (role : Role) → AllByRecursion (IsSpoken role) (adds Began role)
+began_fits Server = ((((lit< tt, refl, All-from_recursion (λ c. c < 2 ^ 16) (0 ∷ 0 ∷ 0 ∷ 0 ∷ []) (lit< tt, (lit< tt, (lit< tt, (lit< tt, tt))))), lit≤ tt), refl), tt)
 began_fits Client = tt
 
 opens_fits : (role : Role) (id : ℕ) (name : List ℕ) → role ≡ Server → id ≤ channel_limit → IsName name → IsPdu role (CreateRequest id 0 name)
@@ -109,8 +118,8 @@ opens_fits role id name is small named =
 pub end_sound : (laws : PduLaws) → (role : Role) (t : Trace Entry) → EndTrace role t → IsSound role (past role t)
 end_sound laws role Start h = record { part = All-nil (λ b. b < 2 ^ 8); out = tt }
 end_sound laws role (t ▷ Made) h = act_sound role (past role t) Began (began_fits role) (end_sound laws role t h.1)
-end_sound laws role (t ▷ Opened id name) h = act_sound role (past role t) (Opens id name) (opens_fits role id name h.0 h.2 h.3, tt) (end_sound laws role t h.5)
-end_sound laws role (t ▷ Sent id message) h = act_sound role (past role t) (Sends id message) (h.1, tt) (end_sound laws role t h.2)
+end_sound laws role (t ▷ Opened id name) h = act_sound role (past role t) (Opens id name) ((opens_fits role id name h.0 h.2 h.3, refl), tt) (end_sound laws role t h.5)
+end_sound laws role (t ▷ Sent id message) h = act_sound role (past role t) (Sends id message) ((h.1, refl), tt) (end_sound laws role t h.2)
 end_sound laws role (t ▷ MainIn offered count) h =
     bytes_sound laws role (past role t) (take count offered) (recursion_from_All (λ b. b < 2 ^ 8) (take count offered) (All-take (λ b. b < 2 ^ 8) count offered h.0)) (end_sound laws role t h.2)
 end_sound laws role (t ▷ MainOut room bytes) h = end_sound laws role t h.1

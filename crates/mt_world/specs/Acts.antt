@@ -5,7 +5,7 @@ use Rattle.mt_base.specs.declared.kinds.Role.{Role}
 use Rattle.mt_base.specs.declared.kinds.Role.TheVariants.{Server, Client}
 use Rattle.mt_base.specs.Ends.{other}
 use Rattle.mt_base.specs.Trace.{Trace, Start, ◌▷◌}
-use Rattle.dvc_pdus.specs.Value.{Pdu, Caps, CreateRequest, CreateResponse, Data}
+use Rattle.dvc_pdus.specs.Value.{Pdu, Caps, CreateRequest, CreateResponse, DataFirst, Data, CompressedFirst, Compressed, Close, SyncRequest, SyncResponse}
 use Rattle.mt_world.specs.declared.channel.ChannelState.{ChannelState}
 use Rattle.mt_world.specs.declared.channel.ChannelState.TheVariants.{Unknown, Asked, Open, Refused}
 use Rattle.mt_world.specs.Frames.{framed, frame_of}
@@ -61,13 +61,19 @@ past role (t ▷ MainOut room bytes) = past role t
 past role (t ▷ Took id message) = past role t
 
 -- what an end writes when it has read a PDU: the client answers capabilities and create requests
--- (MS-RDPEDYC sections 3.2.5.1.1 and 3.2.5.1.2)
+-- (MS-RDPEDYC sections 3.2.5.1.1 and 3.2.5.1.2). PDUs that these ends do not exchange are never read.
 abbrev pub reply : Pdu → Role → List Pdu
 reply (Caps version charges) Server = []
 reply (Caps version charges) Client = Caps 3 None ∷ []
 reply (CreateRequest id priority name) role = CreateResponse id 0 ∷ []
 reply (CreateResponse id status) role = []
 reply (Data id bytes) role = []
+reply (DataFirst made total bytes) role = []
+reply (CompressedFirst made total bytes) role = []
+reply (Compressed made bytes) role = []
+reply (Close made) role = []
+reply (SyncRequest flags tunnels lists) role = []
+reply (SyncResponse types) role = []
 
 -- the PDUs that an act adds to what its end writes
 abbrev pub adds : Act → Role → List Pdu
@@ -104,6 +110,12 @@ message_in id (Data made bytes) = if made == id then bytes ∷ [] else []
 message_in id (Caps version charges) = []
 message_in id (CreateRequest made priority name) = []
 message_in id (CreateResponse made status) = []
+message_in id (DataFirst made total bytes) = []
+message_in id (CompressedFirst made total bytes) = []
+message_in id (Compressed made bytes) = []
+message_in id (Close made) = []
+message_in id (SyncRequest flags tunnels lists) = []
+message_in id (SyncResponse types) = []
 
 -- the messages of a channel that came, in order
 abbrev pub delivered : ℕ → Trace Act → List (List ℕ)
@@ -133,6 +145,12 @@ told (CreateRequest made priority name) id state = if made == id then Open else 
 told (CreateResponse made status) id state = if made == id then answered status else state
 told (Caps version charges) id state = state
 told (Data made bytes) id state = state
+told (DataFirst made total bytes) id state = state
+told (CompressedFirst made total bytes) id state = state
+told (Compressed made bytes) id state = state
+told (Close made) id state = state
+told (SyncRequest flags tunnels lists) id state = state
+told (SyncResponse types) id state = state
 
 -- the state of a channel
 abbrev pub channel : ℕ → Trace Act → ChannelState

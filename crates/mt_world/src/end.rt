@@ -33,12 +33,13 @@ pub(crate) struct End {
 }
 
 impl End {
-    ghost use Rattle.std.specs.Prelude.{◌≡◌, ℕ, ◌+◌, ◌++◌, ◌≤◌, List, [], length, fold, Option, IfOk, OnOk, IsNone, IsTrue};
+    ghost use Rattle.std.specs.Prelude.{◌≡◌, ℕ, ◌+◌, ◌++◌, ◌≤◌, List, [], length, fold, Option, IfOk, OnOk, IsNone, IsTrue, true};
     ghost use Rattle.mt_base.specs.Trace.{Trace, Start, ◌▷◌};
     ghost use Rattle.mt_base.specs.declared.kinds.Role.{Role};
     ghost use Rattle.dvc_pdus.specs.Value.{Caps, CreateRequest, CreateResponse, Data, IsName};
     ghost use Rattle.dvc_pdus.specs.Views.{pdu_of};
     ghost use Rattle.mt_world.specs.Acts.{Act, Past, Began, Opens, Sends, Reads, with_act, with_byte, names as names_of};
+    ghost use Rattle.mt_world.specs.Frames.{is_spoken};
     ghost use Rattle.mt_world.specs.Play.{open_refusal_of, send_refusal_of, is_made as is_made_of};
     ghost use Rattle.mt_world.specs.EndView.{StandsFor};
 
@@ -209,6 +210,7 @@ impl End {
 
     /// Does what a PDU that was read in full asks for.
     fn read(&mut self, alloc: Global, pdu: &DvcPdu<'_>) -> Result<(), NoMemory>
+        requires { is_spoken (pdu_of pdu.now) ≡ true }
         ensures { (role : Role) (acts : Trace Act) (left : List ℕ) (handed : List (List ℕ)) →
             StandsFor self.old role (record { acts = acts; part = [] }) left handed →
             OnOk result (StandsFor self.new role (record { acts = acts ▷ Reads (pdu_of pdu.now); part = [] }) left handed) }
@@ -221,6 +223,7 @@ impl End {
                 Ok(())
             }
             DvcPdu::Data { id, bytes } => self.read_data(alloc, id, bytes),
+            _ => unreachable!(),
         }
     }
 

@@ -142,7 +142,7 @@ fn knows_its_words(rt: HostRuntime) -> Result<(), Fail> {
 
 #[test]
 fn shows_datagrams(rt: HostRuntime) -> Result<(), Fail> {
-    let rows: [(&[u8], &str); 9] = [
+    let rows: [(&[u8], &str); 12] = [
         (b"", ""),
         (
             b"v1 000000020040000400010200",
@@ -173,6 +173,18 @@ fn shows_datagrams(rt: HostRuntime) -> Result<(), Fail> {
             "v2 type=0 log=6 base=5 flags=rrrrmrmmmm\n",
         ),
         (b"v2 00106034120000\n", "v2 refused Short at 0\n"),
+        (
+            b"dvc server 8000120000000300010001000000010007000000\n",
+            "dvc sync flags=0003 tunnels=1 reliable=7\n",
+        ),
+        (
+            b"dvc client 90000100000001000000\n",
+            "dvc syncanswer reliable\n",
+        ),
+        (
+            b"dvc server 30\ndvc server 13\ndvc server 200102616263\n",
+            "dvc refused Short at 1\ndvc refused BadCbId at 0\ndvc refused LengthTooSmall at 2\n",
+        ),
     ];
     for (text, output) in rows {
         let (status, out) = call(rt.alloc(), &["show", "s"], text, &[], &[])?;

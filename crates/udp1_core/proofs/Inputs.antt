@@ -1,20 +1,19 @@
 -- What a datagram that comes does to a machine, by what is read of it.
-use Rattle.std.proofs.Common.{◌≡◌, ℕ, zero, suc, ◌+◌, ◌≤◌, ◌<◌, Bool, true, false, nat_lt, max, List, [], ◌∷◌, ◌++◌, length, Option, Some, None, All, refl, sym, ap, ap₂, ◌∙◌, subst, arith, lt-ltb, le-ltb, nltb→le, T, not, length-append, if◌then◌else◌}
-use Rattle.std.specs.Result.{IfOk, IfErr}
+use Rattle.std.proofs.Common.{◌≡◌, ℕ, ◌≤◌, ◌<◌, Bool, true, false, nat_lt, max, List, [], ◌∷◌, ◌++◌, length, Option, Some, None, refl, sym, ap, ◌∙◌, subst, arith, lt-ltb, le-ltb, nltb→le, T, not, length-append, if◌then◌else◌}
 use Rattle.mt_base.specs.Trace.{Trace, ◌▷◌}
 use Rattle.mt_base.specs.Writing.{joined}
 use Rattle.mt_windows.specs.declared.receive.Accept.{Accept}
 use Rattle.mt_windows.specs.declared.receive.Accept.TheVariants.{New, Again, Beyond}
 use Rattle.udp1_packets.specs.Value.{Packet, Body, SynBody, DataBody, FecBody, BareBody}
-use Rattle.udp1_packets.specs.Layout.{Spells, fields, flags, body_fields, vector_fields, aoa_fields, Choice}
+use Rattle.udp1_packets.specs.Layout.{Spells, flags, body_fields, vector_fields, aoa_fields}
 use Rattle.byteorder.specs.Endian.{big_bytes}
 use Rattle.carrier.specs.declared.state.Took.{Took}
-use Rattle.carrier.specs.declared.state.Took.TheVariants.{Used, Ignored}
+use Rattle.carrier.specs.declared.state.Took.TheVariants.{Ignored}
 use Rattle.carrier.specs.declared.state.Reason.{Reason}
 use Rattle.carrier.specs.declared.state.Reason.TheVariants as reason
 use Rattle.carrier.specs.Entries.{Entry, In, pulled}
 use Rattle.carrier.specs.Layout.{Layout, Received, Reading, Refuses, Shows, Shown, Load, Empty, Carries, Dummy, Correction}
-use Rattle.carrier.specs.Receiving.{Arrival, arrival, verdict_on, transmission_read, receives, received, accepted, effect, has_effect, shown_in, reading, floor, floor_shown, owed, owes, peer_window, window_shown}
+use Rattle.carrier.specs.Receiving.{Arrival, arrival, verdict_on, transmission_read, receives, received, effect, has_effect, shown_in, reading, floor, floor_shown, owed, owes, peer_window, window_shown}
 use Rattle.carrier.specs.Sending.{acts, hears, timer, timer_told, is_closed}
 use Rattle.carrier.specs.Law.{answered, answer_load, answer_reading, answer_to, answer_by, answer_dummy}
 use Rattle.udp1_core.specs.FirstLayout.{shows}
@@ -79,23 +78,23 @@ pub closed_in : (m : Machine) (t : Trace Entry) (now at : ℕ) (datagram : List 
 closed_in m t now at datagram moved closed h =
     let l = layout_of m in
     at_moment m _ at _ (sym moved) (comes_in_vain l m t now datagram (Ignored reason.LinkClosed) refl
-        (sym (ap (λ b. if b then Ignored reason.LinkClosed else answer_reading l (received l t) (length (pulled t)) (reading l datagram)) (closed_is m t true closed h))) h)
+    (sym (ap (λ b. if b then Ignored reason.LinkClosed else answer_reading l (received l t) (length (pulled t)) (reading l datagram)) (closed_is m t true closed h))) h)
 
 pub refused_in : (m : Machine) (t : Trace Entry) (now at : ℕ) (datagram : List ℕ) (why : Reason) → at ≡ max m.moment now → nat_lt 16 m.sender.timer.expiries ≡ false → reading (layout_of m) datagram ≡ Refuses why → StandsIn (layout_of m) m t
     → StandsIn (layout_of m) (record m { moment = at }) (t ▷ In now datagram (Ignored why))
 refused_in m t now at datagram why moved is_open is h =
     let l = layout_of m in
     at_moment m _ at _ (sym moved) (comes_in_vain l m t now datagram (Ignored why) (refused_none l (Ignored why) datagram why is)
-        (answered_open l t datagram (Refuses why) (closed_is m t false is_open h) is) h)
+    (answered_open l t datagram (Refuses why) (closed_is m t false is_open h) is) h)
 
 pub used_in : (m : Machine) (t : Trace Entry) (now at : ℕ) (datagram : List ℕ) (took : Took) (shown : Shown) (s : Sender) (r : Receiver)
     → at ≡ max m.moment now → nat_lt 16 m.sender.timer.expiries ≡ false → reading (layout_of m) datagram ≡ Shows shown
     → took ≡ answer_load (layout_of m) (received (layout_of m) t) (length (pulled t)) shown.load
     → Speaks s (hears (layout_of m) (acts (layout_of m) t) (Some shown)) (window_shown (peer_window (layout_of m) t) (Some shown))
-        (timer_told (layout_of m) (timer (layout_of m) t) (acts (layout_of m) t) (hears (layout_of m) (acts (layout_of m) t) (Some shown)) at)
+    (timer_told (layout_of m) (timer (layout_of m) t) (acts (layout_of m) t) (hears (layout_of m) (acts (layout_of m) t) (Some shown)) at)
     → Hears r (receives (layout_of m) (received (layout_of m) t) (length (pulled t)) (Some shown)).parts (length (pulled t))
-        (floor_shown (layout_of m) (received (layout_of m) t) (length (pulled t)) (receives (layout_of m) (received (layout_of m) t) (length (pulled t)) (Some shown)) (floor (layout_of m) t) (Some shown))
-        (if owes (layout_of m) (received (layout_of m) t) (length (pulled t)) (Some shown) then owed (layout_of m) t ++ at ∷ [] else owed (layout_of m) t)
+    (floor_shown (layout_of m) (received (layout_of m) t) (length (pulled t)) (receives (layout_of m) (received (layout_of m) t) (length (pulled t)) (Some shown)) (floor (layout_of m) t) (Some shown))
+    (if owes (layout_of m) (received (layout_of m) t) (length (pulled t)) (Some shown) then owed (layout_of m) t ++ at ∷ [] else owed (layout_of m) t)
     → StandsIn (layout_of m) m t
     → StandsIn (layout_of m) (record { moment = at; sender = s; receiver = r }) (t ▷ In now datagram took)
 used_in m t now at datagram took shown s r moved is_open is answers speaks hear h =
@@ -103,12 +102,12 @@ used_in m t now at datagram took shown s r moved is_open is answers speaks hear 
     let has : has_effect took ≡ true = ap has_effect answers ∙ load_has l (received l t) (length (pulled t)) shown.load in
     let shows : effect l took datagram ≡ Some shown = ap (λ b. if b then shown_in (reading l datagram) else None) has ∙ ap shown_in is in
     subst (λ k. StandsIn l (record { moment = k; sender = s; receiver = r }) (t ▷ In now datagram took)) (sym moved)
-        (comes l m t now datagram took (Some shown) s r shows
-            (answers ∙ answered_open l t datagram (Shows shown) (closed_is m t false is_open h) is)
-            (subst (λ k. Speaks s (hears l (acts l t) (Some shown)) (window_shown (peer_window l t) (Some shown)) (timer_told l (timer l t) (acts l t) (hears l (acts l t) (Some shown)) k)) moved speaks)
-            (subst (λ k. Hears r (receives l (received l t) (length (pulled t)) (Some shown)).parts (length (pulled t))
-                (floor_shown l (received l t) (length (pulled t)) (receives l (received l t) (length (pulled t)) (Some shown)) (floor l t) (Some shown))
-                (if owes l (received l t) (length (pulled t)) (Some shown) then owed l t ++ k ∷ [] else owed l t)) moved hear) h)
+    (comes l m t now datagram took (Some shown) s r shows
+    (answers ∙ answered_open l t datagram (Shows shown) (closed_is m t false is_open h) is)
+    (subst (λ k. Speaks s (hears l (acts l t) (Some shown)) (window_shown (peer_window l t) (Some shown)) (timer_told l (timer l t) (acts l t) (hears l (acts l t) (Some shown)) k)) moved speaks)
+    (subst (λ k. Hears r (receives l (received l t) (length (pulled t)) (Some shown)).parts (length (pulled t))
+    (floor_shown l (received l t) (length (pulled t)) (receives l (received l t) (length (pulled t)) (Some shown)) (floor l t) (Some shown))
+    (if owes l (received l t) (length (pulled t)) (Some shown) then owed l t ++ k ∷ [] else owed l t)) moved hear) h)
 
 -- ---- what the link is
 
@@ -144,7 +143,7 @@ body_fits bytes p spells within = by_body p.body refl where
       let behind = joined_behind (aoa_fields aoa) (numbers ++ text ∷ []) in
       let vector_behind = joined_behind (vector_fields vector c.after_vector) (aoa_fields aoa ++ (numbers ++ text ∷ [])) in
       let body : length text ≤ length (joined (body_fields p.body c)) =
-          subst (λ b. length text ≤ length (joined (body_fields b c))) (sym e) (omega (arith, last, behind, vector_behind)) in
+      subst (λ b. length text ≤ length (joined (body_fields b c))) (sym e) (omega (arith, last, behind, vector_behind)) in
       let whole = joined_behind (big_bytes 4 p.ack ∷ big_bytes 2 p.window ∷ big_bytes 2 (flags p) ∷ []) (body_fields p.body c) in
       omega (arith, body, whole, ap length spells.bytes_are, within)
   by_body (FecBody vector aoa coded start range index text) e = tt

@@ -1,5 +1,5 @@
 -- What a poll of the first machine sends, and what it then stands for.
-use Rattle.std.proofs.Common.{◌≡◌, ℕ, ◌+◌, ◌-◌, ◌*◌, ◌%◌, ◌<◌, ◌≤◌, Bool, true, false, ◌&&◌, ◌||◌, eqb, ltb, leb, cond, max, List, [], length, Option, Some, None, is_some, unwrap_or, refl, sym, ap, ◌∙◌, subst, arith}
+use Rattle.std.proofs.Common.{◌≡◌, ℕ, ◌+◌, ◌-◌, ◌%◌, ◌<◌, ◌≤◌, Bool, true, false, ◌&&◌, ◌||◌, eqb, ltb, leb, cond, max, List, [], length, Option, Some, None, is_some, unwrap_or, refl, sym, ap, ◌∙◌, subst, arith}
 use Rattle.std.specs.Prelude.{if◌then◌else◌}
 use Rattle.std.proofs.lemmas.Bool.{and_parts}
 use Rattle.std.proofs.lemmas.Bool.Decides.{nat_tests}
@@ -11,10 +11,10 @@ use Rattle.mt_windows.specs.Sending.{Act, cuts, lowest_or_next, may_cut, passed_
 use Rattle.mt_windows.specs.FlightView.{slot_at}
 use Rattle.mt_windows.specs.SendingView.{Outbox, Sends, limits, is_unsettled}
 use Rattle.carrier.specs.Entries.{Entry, Polled, pulled}
-use Rattle.carrier.specs.Layout.{Layout, Datagram, Carried}
+use Rattle.carrier.specs.Layout.{Layout, Datagram}
 use Rattle.carrier.specs.LayoutLaw.{IsCarried}
 use Rattle.carrier.specs.Receiving.{accepted, floor, owed, peer_window, received}
-use Rattle.carrier.specs.Sending.{acts, timer, expires, is_closed, sends_part}
+use Rattle.carrier.specs.Sending.{Timer, acts, timer, expires, is_closed, sends_part}
 use Rattle.carrier.specs.Due.{again, bare, closes, fresh, is_pressing, may_send, meant_at, telling_with}
 use Rattle.udp1_packets.specs.Layout.{spelled}
 use Rattle.udp1_core.specs.declared.choice.Choice.{Choice}
@@ -22,10 +22,10 @@ use Rattle.udp1_core.specs.declared.choice.Choice.TheVariants.{Silent, Again, Fr
 use Rattle.udp1_core.specs.FirstLayout.{first_layout, packet_with}
 use Rattle.udp1_core.specs.ReceiverView.{Hears, head_of}
 use Rattle.udp1_core.specs.SenderView.{Speaks, choice_at, timer_at, timer_begun}
-use Rattle.udp1_core.specs.MachineView.{Machine, StandsIn, carries, owed_after, fresh_load, again_load}
+use Rattle.udp1_core.specs.MachineView.{Machine, StandsIn, layout_of, carries, owed_after, fresh_load, again_load}
 use Rattle.udp1_core.proofs.Carrying.{part_tells}
 use Rattle.udp1_core.proofs.ReadBack.{read_back}
-use Rattle.udp1_core.proofs.Steps.{polled_same}
+use Rattle.udp1_core.proofs.Steps.{at_layout, polled_same}
 use Rattle.udp1_core.proofs.Polled.{sends_none, sends_one, timer_cut, timer_resent, waits_cut}
 
 -- ---- what is meant, by the choice
@@ -42,24 +42,31 @@ pub meant_by : (l : Layout) (t : Trace Entry) (at : ℕ) (choice : Choice)
     → MeantBy l t at choice (meant_at l t at)
 meant_by l t at choice is =
     subst (λ c. MeantBy l t at c (meant_at l t at)) (sym is)
-    (by_cases (is_closed l t || closes l t at) (expires l (timer l t) a at && may_send l a) (is_some over && may_send l a) (may_cut l.bounds.windows l.own a (peer_window l t))) where
-  a : Trace Act
-  a = acts l t
-  over : Option ℕ
-  over = passed_over l.bounds.windows a
-  by_cases : (ended expired passed cut : Bool) → MeantBy l t at
-      (cond ended Silent (cond expired (Again (l.own + lowest_or_next l.bounds.windows a)) (cond passed (Again (l.own + unwrap_or over 0)) (cond cut Fresh Telling))))
-      (cond ended None (cond expired (Some (again l t (lowest_or_next l.bounds.windows a))) (cond passed (Some (again l t (unwrap_or over 0))) (cond cut (Some (fresh l t)) (bare l t at)))))
-  by_cases true expired passed cut = refl
-  by_cases false true passed cut = (lowest_or_next l.bounds.windows a, refl, refl)
-  by_cases false false true cut = (unwrap_or over 0, refl, refl)
-  by_cases false false false true = refl
-  by_cases false false false false = refl
+    (by_cases (is_closed l t || closes l t at) (expires l (timer l t) a at && may_send l a)
+    (is_some over && may_send l a) (may_cut l.bounds.windows l.own a (peer_window l t))) where
+      a : Trace Act
+      a = acts l t
+
+      over : Option ℕ
+      over = passed_over l.bounds.windows a
+
+      by_cases : (ended expired passed cut : Bool) → MeantBy l t at
+          (cond ended Silent (cond expired (Again (l.own + lowest_or_next l.bounds.windows a))
+          (cond passed (Again (l.own + unwrap_or over 0)) (cond cut Fresh Telling))))
+          (cond ended None (cond expired (Some (again l t (lowest_or_next l.bounds.windows a)))
+          (cond passed (Some (again l t (unwrap_or over 0))) (cond cut (Some (fresh l t))
+          (bare l t at)))))
+      by_cases true expired passed cut = refl
+      by_cases false true passed cut = (lowest_or_next l.bounds.windows a, refl, refl)
+      by_cases false false true cut = (unwrap_or over 0, refl, refl)
+      by_cases false false false true = refl
+      by_cases false false false false = refl
 
 -- ---- numbers that are read back
 
 -- an unsettled part was cut
-pub unsettled_cut : (o : Outbox) (own part p : ℕ) (a : Trace Act) → Sends o own a → part ≡ own + p → is_unsettled o part ≡ true → p < cuts a
+pub unsettled_cut : (o : Outbox) (own part p : ℕ) (a : Trace Act) → Sends o own a
+    → part ≡ own + p → is_unsettled o part ≡ true → p < cuts a
 unsettled_cut o own part p a h place is =
     let there = is_some (slot_at o.flights (part - o.first - o.base)) in
     let above = and_parts (leb (o.first + o.base) part) (ltb part (o.first + o.cut) && there) is in
@@ -69,13 +76,16 @@ unsettled_cut o own part p a h place is =
     grind (arith, nat_tests)
 
 -- a number near to the next part is read back
-reads_near : (reference n : ℕ) → reference ≤ n + 64 → n ≤ reference → nearest 4294967296 reference (n % 4294967296) ≡ Some n
-reads_near reference n near within = nearest_meant 2147483648 reference n (omega arith) (omega (arith, near)) (omega (arith, within))
+reads_near : (reference n : ℕ) → reference ≤ n + 64 → n ≤ reference
+    → nearest 4294967296 reference (n % 4294967296) ≡ Some n
+reads_near reference n near within = nearest_meant 2147483648 reference n (omega arith)
+    (omega (arith, near)) (omega (arith, within))
 
 -- ---- what is sent
 
 module _ (wait delay own peer : ℕ) (m n : Machine) (t : Trace Entry) (now : ℕ)
-    (moment_is : n.moment ≡ max m.moment now) (h : StandsIn (first_layout wait delay own peer) m t) where
+    (moment_is : n.moment ≡ max m.moment now) (h : StandsIn (first_layout wait delay own peer) m
+    t) where
   abbrev pub l : Layout
   l = first_layout wait delay own peer
 
@@ -93,29 +103,34 @@ module _ (wait delay own peer : ℕ) (m n : Machine) (t : Trace Entry) (now : �
   pub sends_fresh : (out : List ℕ) → meant_at l t n.moment ≡ Some (fresh l t)
       → IsCarried l (fresh_load own a)
       → settled limits a (cuts a) ≡ false
-      → out ≡ spelled (packet_with (carries peer (accepted l t) (floor l t) (owed l t) None (fresh_load own a)))
-      → Speaks n.sender (a ▷ Cut) (peer_window l t) (timer_begun l a (timer_at l a (timer l t) n.moment) n.moment)
+      → out ≡ spelled (packet_with (carries peer (accepted l t) (floor l t) (owed l t) None
+      (fresh_load own a)))
+      → Speaks n.sender (a ▷ Cut) (peer_window l t) (timer_begun l a (timer_at l a (timer l t)
+      n.moment) n.moment)
       → Hears n.receiver (accepted l t) (length (pulled t)) (floor l t) (owed_after (owed l t))
       → StandsIn l n (t ▷ Polled now (Some out))
   sends_fresh out means carried new spells speaks hears =
       let tells = ltb 0 (length (owed l t)) in
       let d = telling_with l t None (Some (fresh_load own a)) tells in
-      let number : sends_part l a (nearest 4294967296 (own + cuts a) ((own + cuts a) % 4294967296)) ≡ a ▷ Cut =
+      let number : sends_part l a (nearest 4294967296 (own + cuts a)
+      ((own + cuts a) % 4294967296)) ≡ a ▷ Cut =
       ap (sends_part l a) (reads_near (own + cuts a) (own + cuts a) (omega arith) (omega arith))
       ∙ ap (λ b. cond b (a ▷ Cut) (a ▷ Resent (own + cuts a - own))) (same_number (own + cuts a)) in
       sends_one l m n t now moment_is h d out (a ▷ Cut) _
       (means ∙ ap Some (part_tells wait delay own peer t None (fresh_load own a) carried))
       spells
-      (read_back wait delay own peer (received l t) (floor l t) tells None (Some (fresh_load own a)) carried)
+      (read_back wait delay own peer (received l t) (floor l t) tells None
+      (Some (fresh_load own a)) carried)
       number (timer_cut l (timer l t) a n.moment (waits_cut l a new)) speaks hears where
-    same_number : (k : ℕ) → eqb k k ≡ true
-    same_number k = grind (arith, nat_tests)
+        same_number : (k : ℕ) → eqb k k ≡ true
+        same_number k = grind (arith, nat_tests)
 
   -- a part again
   pub sends_again : (p : ℕ) (out : List ℕ) → meant_at l t n.moment ≡ Some (again l t p)
       → IsCarried l (again_load own p a)
       → p < cuts a → cuts a ≤ p + 64
-      → out ≡ spelled (packet_with (carries peer (accepted l t) (floor l t) (owed l t) (Some (own + lowest_or_next limits a)) (again_load own p a)))
+      → out ≡ spelled (packet_with (carries peer (accepted l t) (floor l t) (owed l t)
+      (Some (own + lowest_or_next limits a)) (again_load own p a)))
       → Speaks n.sender (a ▷ Resent p) (peer_window l t) (timer_at l a (timer l t) n.moment)
       → Hears n.receiver (accepted l t) (length (pulled t)) (floor l t) (owed_after (owed l t))
       → StandsIn l n (t ▷ Polled now (Some out))
@@ -125,32 +140,154 @@ module _ (wait delay own peer : ℕ) (m n : Machine) (t : Trace Entry) (now : �
       let d = telling_with l t above (Some (again_load own p a)) tells in
       let other : eqb (own + p) (own + cuts a) ≡ false = grind (arith, nat_tests) in
       let place : own + p - own ≡ p = omega arith in
-      let number : sends_part l a (nearest 4294967296 (own + cuts a) ((own + p) % 4294967296)) ≡ a ▷ Resent p =
-      ap (sends_part l a) (reads_near (own + cuts a) (own + p) (omega (arith, near)) (omega (arith, below)))
-      ∙ ap (λ b. cond b (a ▷ Cut) (a ▷ Resent (own + p - own))) other ∙ ap (λ k. a ▷ Resent k) place in
+      let number : sends_part l a (nearest 4294967296 (own + cuts a) ((own + p) % 4294967296))
+      ≡ a ▷ Resent p =
+      ap (sends_part l a) (reads_near (own + cuts a) (own + p) (omega (arith, near))
+      (omega (arith, below)))
+      ∙ ap (λ b. cond b (a ▷ Cut) (a ▷ Resent (own + p - own))) other
+      ∙ ap (λ k. a ▷ Resent k) place in
       sends_one l m n t now moment_is h d out (a ▷ Resent p) _
       (means ∙ ap Some (part_tells wait delay own peer t above (again_load own p a) carried))
       spells
-      (read_back wait delay own peer (received l t) (floor l t) tells above (Some (again_load own p a)) carried)
+      (read_back wait delay own peer (received l t) (floor l t) tells above
+      (Some (again_load own p a)) carried)
       number (timer_resent l (timer l t) a p n.moment) speaks hears
 
   -- a telling alone, or nothing
   pub tells_alone : (out : Option (List ℕ)) → meant_at l t n.moment ≡ bare l t n.moment
-      → out ≡ (if is_pressing l (owed l t) n.moment then Some (spelled (packet_with (head_of peer (accepted l t) (floor l t) (owed l t) None None))) else None)
+      → out ≡ (if is_pressing l (owed l t) n.moment then Some
+      (spelled (packet_with (head_of peer (accepted l t) (floor l t) (owed l t) None None))) else
+      None)
       → Speaks n.sender a (peer_window l t) (timer_at l a (timer l t) n.moment)
-      → Hears n.receiver (accepted l t) (length (pulled t)) (floor l t) (if is_pressing l (owed l t) n.moment then [] else owed l t)
+      → Hears n.receiver (accepted l t) (length (pulled t)) (floor l t) (if is_pressing l
+      (owed l t) n.moment then [] else owed l t)
       → StandsIn l n (t ▷ Polled now out)
-  tells_alone out means spells speaks hears = by_case (is_pressing l (owed l t) n.moment) means spells hears where
-    d : Datagram
-    d = telling_with l t None None true
-    by_case : (b : Bool) → meant_at l t n.moment ≡ cond b (Some d) None
-        → out ≡ cond b (Some (spelled (packet_with (head_of peer (accepted l t) (floor l t) (owed l t) None None)))) None
-        → Hears n.receiver (accepted l t) (length (pulled t)) (floor l t) (cond b [] (owed l t))
-        → StandsIn l n (t ▷ Polled now out)
-    by_case false means is hears =
-        subst (λ o. StandsIn l n (t ▷ Polled now o)) (sym is) (silent means speaks hears)
-    by_case true means is hears =
-        subst (λ o. StandsIn l n (t ▷ Polled now o)) (sym is)
-        (sends_one l m n t now moment_is h d (l.spell d) a _ means refl
-        (read_back wait delay own peer (received l t) (floor l t) true None None tt)
-        refl (polled_same l (timer l t) a n.moment) speaks hears)
+  tells_alone out means spells speaks hears = by_case (is_pressing l (owed l t) n.moment) means
+      spells hears where
+        d : Datagram
+        d = telling_with l t None None true
+
+        by_case : (b : Bool) → meant_at l t n.moment ≡ cond b (Some d) None
+            → out ≡ cond b (Some (spelled (packet_with (head_of peer (accepted l t) (floor l t)
+            (owed l t) None None)))) None
+            → Hears n.receiver (accepted l t) (length (pulled t)) (floor l t) (cond b [] (owed l t))
+            → StandsIn l n (t ▷ Polled now out)
+        by_case false means is hears =
+            subst (λ o. StandsIn l n (t ▷ Polled now o)) (sym is) (silent means speaks hears)
+        by_case true means is hears =
+            subst (λ o. StandsIn l n (t ▷ Polled now o)) (sym is)
+            (sends_one l m n t now moment_is h d (l.spell d) a _ means refl
+            (read_back wait delay own peer (received l t) (floor l t) true None None tt)
+            refl (polled_same l (timer l t) a n.moment) speaks hears)
+
+-- ---- a poll of the machine
+
+-- The sender has chosen: this is meant, and this it speaks of.
+pub record Chose (n : Machine) (t : Trace Entry) (choice : Choice) : Type 0 where
+  pub means : MeantBy (layout_of n) t n.moment choice (meant_at (layout_of n) t n.moment)
+  pub speaks : Speaks n.sender (acts (layout_of n) t) (peer_window (layout_of n) t)
+      (timer_at (layout_of n) (acts (layout_of n) t) (timer (layout_of n) t) n.moment)
+
+pub chose : (m n : Machine) (t : Trace Entry) (choice : Choice) → layout_of m ≡ layout_of n
+    → ((acts : Trace Act) (told : ℕ) (timer : Timer) → Speaks m.sender acts told timer
+    → choice ≡ choice_at (layout_of m) acts told timer n.moment)
+    → ((acts : Trace Act) (told : ℕ) (timer : Timer) → Speaks m.sender acts told timer
+    → Speaks n.sender acts told (timer_at (layout_of m) acts timer n.moment))
+    → StandsIn (layout_of n) m t → Chose n t choice
+chose m n t choice same chooses counts h =
+    let l = layout_of n in
+    let a = acts l t in
+    let w = peer_window l t in
+    let tm = timer l t in
+    record {
+      means = meant_by l t n.moment choice
+          (subst (λ k. choice ≡ choice_at k a w tm n.moment) same (chooses a w tm h.sends));
+      speaks = subst (λ k. Speaks n.sender a w (timer_at k a tm n.moment)) same
+          (counts a w tm h.sends);
+    }
+
+-- the machine m chose as n, and sent as x
+module _ (m n x : Machine) (t : Trace Entry) (now : ℕ) (moment_is : n.moment ≡ max m.moment now)
+    (stays : x.moment ≡ n.moment) (same : layout_of x ≡ layout_of n)
+    (h : StandsIn (layout_of n) m t) where
+  abbrev pub chosen_layout : Layout
+  chosen_layout = layout_of n
+
+  abbrev pub chosen_acts : Trace Act
+  chosen_acts = acts (layout_of n) t
+
+  abbrev pub chosen_timer : ℕ → Timer
+  chosen_timer k = timer_at (layout_of n) (acts (layout_of n) t) (timer (layout_of n) t) k
+
+  abbrev pub heard : List ℕ → Type 0
+  heard more = Hears x.receiver (accepted (layout_of n) t) (length (pulled t))
+      (floor (layout_of n) t) more
+
+  pub stands_fresh : (out : List ℕ) → Chose n t Fresh
+      → IsCarried chosen_layout (fresh_load n.sender.own chosen_acts)
+      → out ≡ spelled (packet_with (carries n.receiver.peer (accepted chosen_layout t)
+      (floor chosen_layout t) (owed chosen_layout t) None (fresh_load n.sender.own chosen_acts)))
+      → Speaks x.sender (chosen_acts ▷ Cut) (peer_window chosen_layout t)
+      (timer_begun chosen_layout chosen_acts (chosen_timer n.moment) n.moment)
+      → heard (owed_after (owed chosen_layout t))
+      → StandsIn (layout_of x) x (t ▷ Polled now (Some out))
+  stands_fresh out c carried spells speaks hears =
+      let new = h.sends.sends.unsettled_beyond (cuts chosen_acts)
+      (omega (arith, h.sends.sends.cut_is)) in
+      at_layout chosen_layout (layout_of x) x _ (sym same)
+      (sends_fresh n.sender.wait n.receiver.delay n.sender.own n.receiver.peer m x t now
+      (stays ∙ moment_is) h out
+      (subst (λ k. meant_at chosen_layout t k ≡ Some (fresh chosen_layout t)) (sym stays) c.means)
+      carried new spells
+      (subst (λ k. Speaks x.sender (chosen_acts ▷ Cut) (peer_window chosen_layout t)
+      (timer_begun chosen_layout chosen_acts (chosen_timer k) k)) (sym stays) speaks)
+      hears)
+
+  pub stands_again : (part : ℕ) (out : List ℕ) (c : Chose n t (Again part))
+      → IsCarried chosen_layout (again_load n.sender.own c.means.0 chosen_acts)
+      → is_unsettled n.sender.outbox part ≡ true
+      → cuts chosen_acts ≤ c.means.0 + 64
+      → out ≡ spelled (packet_with (carries n.receiver.peer (accepted chosen_layout t)
+      (floor chosen_layout t) (owed chosen_layout t)
+      (Some (n.sender.own + lowest_or_next limits chosen_acts))
+      (again_load n.sender.own c.means.0 chosen_acts)))
+      → Speaks x.sender (chosen_acts ▷ Resent c.means.0) (peer_window chosen_layout t)
+      (chosen_timer n.moment)
+      → heard (owed_after (owed chosen_layout t))
+      → StandsIn (layout_of x) x (t ▷ Polled now (Some out))
+  stands_again part out c carried unsettled near spells speaks hears =
+      let p = c.means.0 in
+      let below = unsettled_cut n.sender.outbox n.sender.own part p chosen_acts c.speaks.sends
+      c.means.1 unsettled in
+      at_layout chosen_layout (layout_of x) x _ (sym same)
+      (sends_again n.sender.wait n.receiver.delay n.sender.own n.receiver.peer m x t now
+      (stays ∙ moment_is) h p out
+      (subst (λ k. meant_at chosen_layout t k ≡ Some (again chosen_layout t p)) (sym stays)
+      c.means.2)
+      carried below near spells
+      (subst (λ k. Speaks x.sender (chosen_acts ▷ Resent p) (peer_window chosen_layout t)
+      (chosen_timer k)) (sym stays) speaks)
+      hears)
+
+  pub stands_telling : (out : Option (List ℕ)) → Chose n t Telling
+      → out ≡ (if is_pressing chosen_layout (owed chosen_layout t) n.moment
+      then Some (spelled (packet_with (head_of n.receiver.peer (accepted chosen_layout t)
+      (floor chosen_layout t) (owed chosen_layout t) None None))) else None)
+      → x.sender ≡ n.sender
+      → heard (if is_pressing chosen_layout (owed chosen_layout t) n.moment then []
+      else owed chosen_layout t)
+      → StandsIn (layout_of x) x (t ▷ Polled now out)
+  stands_telling out c spells sender hears =
+      let due = owed chosen_layout t in
+      let alone = spelled (packet_with (head_of n.receiver.peer (accepted chosen_layout t)
+      (floor chosen_layout t) due None None)) in
+      at_layout chosen_layout (layout_of x) x _ (sym same)
+      (tells_alone n.sender.wait n.receiver.delay n.sender.own n.receiver.peer m x t now
+      (stays ∙ moment_is) h out
+      (subst (λ k. meant_at chosen_layout t k ≡ bare chosen_layout t k) (sym stays) c.means)
+      (subst (λ k. out ≡ (if is_pressing chosen_layout due k then Some alone else None))
+      (sym stays) spells)
+      (subst (λ k. Speaks x.sender chosen_acts (peer_window chosen_layout t) (chosen_timer k))
+      (sym stays) (subst (λ s. Speaks s chosen_acts (peer_window chosen_layout t)
+      (chosen_timer n.moment)) (sym sender) c.speaks))
+      (subst (λ k. heard (if is_pressing chosen_layout due k then [] else due)) (sym stays) hears))

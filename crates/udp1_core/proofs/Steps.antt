@@ -1,20 +1,18 @@
 -- What each call does to the relation between a machine and its trace.
-use Rattle.std.proofs.Common.{◌≡◌, ℕ, ◌+◌, ◌≤◌, ◌<◌, ◌&&◌, Bool, true, false, not, min, max, List, [], ◌∷◌, ◌++◌, length, take, drop, replicate, Option, Some, None, All, Result, Ok, OnOk, nat_lt, is_some, zero, suc, append-nil, length-append, subst₂, ap₂, refl, sym, ap, ◌∙◌, subst, take-add, take_at, length-take, length-take-le, arith, if◌then◌else◌}
+use Rattle.std.proofs.Common.{◌≡◌, ℕ, ◌+◌, ◌≤◌, ◌&&◌, Bool, true, false, not, min, max, List, [], ◌∷◌, ◌++◌, length, take, drop, replicate, Option, Some, None, Result, Ok, OnOk, nat_lt, is_some, zero, suc, append-nil, length-append, subst₂, ap₂, refl, sym, ap, ◌∙◌, subst, take-add, length-take, length-take-le, arith, if◌then◌else◌}
 use Rattle.std.proofs.lemmas.List.{take_min}
 use Rattle.mt_base.specs.Trace.{Trace, ◌▷◌}
-use Rattle.mt_windows.specs.Arrived.{Parts, passed, verdict}
-use Rattle.mt_windows.specs.ArrivedView.{left_of}
+use Rattle.mt_windows.specs.Arrived.{passed}
 use Rattle.mt_windows.specs.Sending.{Act, Gave as GaveBytes, cuts, is_open, settled, least, or_else, queued}
-use Rattle.mt_windows.specs.SendingView.{Sends, limits}
 use Rattle.mt_windows.proofs.Order.{with_part_adds}
 use Rattle.carrier.specs.declared.state.Took.{Took}
-use Rattle.carrier.specs.Entries.{Entry, Gave, In, Polled, Pulled, Owed, moment, pulled}
+use Rattle.carrier.specs.Entries.{Entry, Gave, In, Polled, Pulled, Owed, pulled}
 use Rattle.carrier.specs.Layout.{Layout, Received, Shown}
-use Rattle.carrier.specs.Receiving.{Arrival, arrival, verdict_on, parts_with, receives, received, accepted, effect, floor, floor_shown, owed, owes, peer_window, window_shown}
+use Rattle.carrier.specs.Receiving.{Arrival, arrival, parts_with, receives, received, accepted, effect, floor, floor_shown, owed, owes, peer_window, window_shown}
 use Rattle.carrier.specs.Sending.{Timer, acts, hears, timer, timer_told, timer_polled, settles, is_waiting, expires}
 use Rattle.carrier.specs.Due.{due}
-use Rattle.carrier.specs.Law.{Faithful, answered, IsBytes}
-use Rattle.udp1_core.specs.FirstLayout.{bounds, first_layout}
+use Rattle.carrier.specs.Law.{answered, IsBytes}
+use Rattle.udp1_core.specs.FirstLayout.{first_layout}
 use Rattle.udp1_core.specs.ReceiverView.{Receiver, Hears}
 use Rattle.udp1_core.specs.SenderView.{Sender, Speaks, timer_at}
 use Rattle.udp1_core.specs.MachineView.{Machine, Stands, StandsIn, layout_of}
@@ -118,11 +116,12 @@ nothing_settles layout s = none_both (cuts s) where
   both_not false b = refl
   both_not true false = refl
   both_not true true = refl
+
   none_both : (n : ℕ) → is_some (least (λ p. is_open layout.bounds.windows s p && settled layout.bounds.windows s p) n) ≡ false
   none_both zero = refl
   none_both (suc n) =
       ap (λ b. is_some (or_else (least (λ p. is_open layout.bounds.windows s p && settled layout.bounds.windows s p) n) (if b then Some n else None)))
-          (both_not (nat_lt n (cuts s)) (settled layout.bounds.windows s n))
+      (both_not (nat_lt n (cuts s)) (settled layout.bounds.windows s n))
       ∙ or_none (least (λ p. is_open layout.bounds.windows s p && settled layout.bounds.windows s p) n) ∙ none_both n
 
 pub told_same : (layout : Layout) (tm : Timer) (s : Trace Act) (at : ℕ) → timer_told layout tm s s at ≡ tm
@@ -139,10 +138,10 @@ pub comes : (layout : Layout) (m : Machine) (t : Trace Entry) (now : ℕ) (datag
     → effect layout took datagram ≡ x
     → took ≡ answered layout t datagram
     → Speaks s (hears layout (acts layout t) x) (window_shown (peer_window layout t) x)
-        (timer_told layout (timer layout t) (acts layout t) (hears layout (acts layout t) x) (max m.moment now))
+    (timer_told layout (timer layout t) (acts layout t) (hears layout (acts layout t) x) (max m.moment now))
     → Hears r (receives layout (received layout t) (length (pulled t)) x).parts (length (pulled t))
-        (floor_shown layout (received layout t) (length (pulled t)) (receives layout (received layout t) (length (pulled t)) x) (floor layout t) x)
-        (if owes layout (received layout t) (length (pulled t)) x then owed layout t ++ max m.moment now ∷ [] else owed layout t)
+    (floor_shown layout (received layout t) (length (pulled t)) (receives layout (received layout t) (length (pulled t)) x) (floor layout t) x)
+    (if owes layout (received layout t) (length (pulled t)) x then owed layout t ++ max m.moment now ∷ [] else owed layout t)
     → StandsIn layout m t → StandsIn layout (record { moment = max m.moment now; sender = s; receiver = r }) (t ▷ In now datagram took)
 comes layout m t now datagram took x s r shows answers speaks hear h =
     let n = length (pulled t) in
@@ -152,12 +151,12 @@ comes layout m t now datagram took x s r shows answers speaks hear h =
     record {
       moment_is = at_moment;
       sends = subst₂ (λ y at. Speaks s (hears layout (acts layout t) y) (window_shown (peer_window layout t) y)
-        (timer_told layout (timer layout t) (acts layout t) (hears layout (acts layout t) y) at)) (sym shows) at_moment speaks;
+          (timer_told layout (timer layout t) (acts layout t) (hears layout (acts layout t) y) at)) (sym shows) at_moment speaks;
       hears = subst₂ (λ y at. Hears r (receives layout (received layout t) n y).parts n
-        (floor_shown layout (received layout t) n (receives layout (received layout t) n y) (floor layout t) y)
-        (if owes layout (received layout t) n y then owed layout t ++ at ∷ [] else owed layout t)) (sym shows) at_moment hear;
+          (floor_shown layout (received layout t) n (receives layout (received layout t) n y) (floor layout t) y)
+          (if owes layout (received layout t) n y then owed layout t ++ at ∷ [] else owed layout t)) (sym shows) at_moment hear;
       in_order = h.in_order ∙ subst (λ y. take n (passed (accepted layout t)) ≡ take n (passed (receives layout (received layout t) n y).parts)) (sym shows)
-        (sym (ap (take n) more.1 ∙ take_front n (passed (accepted layout t)) more.0 within));
+          (sym (ap (take n) more.1 ∙ take_front n (passed (accepted layout t)) more.0 within));
       faithful = (answers, h.faithful);
     }
 
@@ -168,8 +167,8 @@ pub comes_in_vain : (layout : Layout) (m : Machine) (t : Trace Entry) (now : ℕ
     → StandsIn layout m t → StandsIn layout (record m { moment = max m.moment now }) (t ▷ In now datagram took)
 comes_in_vain layout m t now datagram took none answers h =
     comes layout m t now datagram took None m.sender m.receiver none answers
-        (subst (Speaks m.sender (acts layout t) (peer_window layout t)) (sym (told_same layout (timer layout t) (acts layout t) (max m.moment now))) h.sends)
-        h.hears h
+    (subst (Speaks m.sender (acts layout t) (peer_window layout t)) (sym (told_same layout (timer layout t) (acts layout t) (max m.moment now))) h.sends)
+    h.hears h
 
 -- ---- a poll
 

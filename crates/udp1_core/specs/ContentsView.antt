@@ -1,5 +1,5 @@
 -- What a packet of an open link shows, in the words of links.
-use Rattle.std.specs.Prelude.{◌≡◌, ℕ, ◌≤◌, List, length, All, Option, Some, None, option_copied}
+use Rattle.std.specs.Prelude.{◌≡◌, ℕ, ◌≤◌, length, All, Option, Some, None, option_copied}
 use Rattle.ack_vector.specs.Elements.{IsGood}
 use Rattle.udp1_packets.specs.Value.{Body, Packet, SynBody, DataBody, FecBody, BareBody}
 use Rattle.carrier.specs.Layout.{Shown}

@@ -1,6 +1,5 @@
 -- The first layout (MS-RDPEUDP section 2.2) as the layout of a reliable link.
-use Rattle.std.specs.Prelude.{◌≡◌, ℕ, zero, suc, ◌+◌, ◌-◌, ◌%◌, ◌^◌, ◌==◌, Bool, true, max, List, [], ◌∷◌, if◌then◌else◌, Option, Some, None, option_map, unwrap_or, Result, Ok, Err}
-use Rattle.mt_base.specs.Reading.{Left}
+use Rattle.std.specs.Prelude.{ℕ, zero, suc, ◌+◌, ◌-◌, ◌%◌, ◌^◌, Bool, true, max, List, [], ◌∷◌, if◌then◌else◌, Option, Some, None, option_map, unwrap_or, Result, Ok, Err}
 use Rattle.mt_windows.specs.Arrived.{Parts, greatest_part, has_part}
 use Rattle.mt_windows.specs.SendingView.{limits}
 use Rattle.mt_windows.specs.declared.limits.TheConstants.{WINDOW}
@@ -8,7 +7,7 @@ use Rattle.ack_vector.specs.Elements.{flags_of}
 use Rattle.ack_vector.specs.Longest.{elements_of}
 use Rattle.carrier.specs.declared.first_layout.Refusal1.{Refusal1}
 use Rattle.carrier.specs.declared.state.Reason.TheVariants as reason
-use Rattle.carrier.specs.Layout.{Layout, Bounds, Received, Reading, Refuses, Shows, Shown, Load, Empty, Carries, Dummy, Correction, Telling, Upto, From, Datagram, Carried, named_in}
+use Rattle.carrier.specs.Layout.{Layout, Bounds, Reading, Refuses, Shows, Empty, Carries, Correction, Telling, Upto, From, Datagram, Carried, named_in}
 use Rattle.udp1_packets.specs.Value.{Body, SynBody, DataBody, FecBody, BareBody, Packet}
 use Rattle.udp1_packets.specs.Layout.{spelled}
 use Rattle.udp1_packets.specs.Reading.{packet_at}

@@ -1,8 +1,8 @@
 -- What a machine stands for.
-use Rattle.std.specs.Prelude.{◌≡◌, ℕ, ◌+◌, ◌<◌, ◌≤◌, ◌^◌, ◌==◌, Bool, nat_lt, min, List, [], ◌∷◌, length, take, drop, if◌then◌else◌, Option, Some, None}
+use Rattle.std.specs.Prelude.{◌≡◌, ℕ, ◌+◌, ◌==◌, nat_lt, min, List, [], length, take, if◌then◌else◌, Option, Some, None}
 use Rattle.mt_base.specs.Trace.{Trace}
 use Rattle.mt_windows.specs.Arrived.{Parts, passed}
-use Rattle.mt_windows.specs.Sending.{Act, cuts, transmissions, piece, next_piece, lowest_or_next}
+use Rattle.mt_windows.specs.Sending.{Act, cuts, transmissions, piece, next_piece}
 use Rattle.mt_windows.specs.SendingView.{limits}
 use Rattle.carrier.specs.declared.state.LinkState.{LinkState}
 use Rattle.carrier.specs.declared.state.LinkState.TheVariants.{Open, Closed}

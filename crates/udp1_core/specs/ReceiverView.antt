@@ -1,5 +1,5 @@
 -- What the receiving half of a machine stands for.
-use Rattle.std.specs.Prelude.{◌≡◌, ℕ, ◌+◌, ◌-◌, ◌<◌, ◌≤◌, ◌^◌, min, max, List, [], ◌∷◌, ◌++◌, length, get_or, replicate, if◌then◌else◌, nat_lt, Bool, true, Option, Some, None, option_map}
+use Rattle.std.specs.Prelude.{◌≡◌, ℕ, ◌+◌, ◌<◌, ◌≤◌, ◌^◌, min, List, [], ◌∷◌, length, get_or, nat_lt, Bool, true, Option, Some, None, option_map}
 use Rattle.mt_windows.specs.Arrived.{Parts}
 use Rattle.mt_windows.specs.ArrivedView.{Inbox, Receives}
 use Rattle.carrier.specs.Layout.{Layout, Load, Empty, Carries, Correction, Carried, Datagram}

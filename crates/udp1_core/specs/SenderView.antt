@@ -1,5 +1,5 @@
 -- What the sending half of a machine stands for.
-use Rattle.std.specs.Prelude.{◌≡◌, ℕ, ◌+◌, ◌-◌, ◌*◌, ◌<◌, ◌≤◌, ◌^◌, ◌&&◌, ◌||◌, Bool, true, false, not, nat_le, nat_lt, min, max, List, if◌then◌else◌, Option, Some, None, is_some, option_map, unwrap_or}
+use Rattle.std.specs.Prelude.{◌≡◌, ℕ, ◌+◌, ◌<◌, ◌≤◌, ◌^◌, ◌&&◌, ◌||◌, Bool, nat_le, if◌then◌else◌, Option, Some, None, is_some, option_map, unwrap_or}
 use Rattle.mt_base.specs.Trace.{Trace}
 use Rattle.mt_windows.specs.Sending.{Act, may_cut, lowest_or_next, passed_over}
 use Rattle.mt_windows.specs.SendingView.{Outbox, Sends}
@@ -8,7 +8,7 @@ use Rattle.carrier.specs.Sending.{Timer, is_over, is_waiting, expires, expiry}
 use Rattle.carrier.specs.Due.{may_send}
 use Rattle.udp1_core.specs.declared.choice.Choice.{Choice}
 use Rattle.udp1_core.specs.declared.choice.Choice.TheVariants.{Silent, Again, Fresh, Telling}
-use Rattle.udp1_core.specs.FirstLayout.{first_layout, bounds}
+use Rattle.udp1_core.specs.FirstLayout.{first_layout}
 
 -- what is kept: the first number of this end, the shortest wait of the timer, the window, the window
 -- told by the other end, and the timer

@@ -17,7 +17,7 @@ use Rattle.carrier.proofs.links.Invariant.{Even, FliesLoad, LowFloor, Told, Way}
 use Rattle.carrier.proofs.links.Numbers.{open_cut}
 use Rattle.carrier.proofs.links.Parts.{some_at, passed_front}
 use Rattle.carrier.proofs.links.Steps.{way_sends, way_tells, way_hears, way_pulls}
-use Rattle.carrier.proofs.links.Facing.{Facing}
+use Rattle.carrier.proofs.links.Facing.{Facing, alone}
 use Rattle.carrier.proofs.links.Sends.{Says, says, outcome}
 use Rattle.carrier.proofs.links.Reading.{told_now}
 
@@ -121,7 +121,7 @@ pub polls : (late : ℕ) (l m : Layout) (t u : Trace Entry) (now : ℕ) (datagra
     → Some datagram ≡ due l t now → Later l t now datagram S R S' R' T U T' U' → Both l m t u S R T U → Both l m (t ▷ Polled now (Some datagram)) u S' R' T' U'
 polls late l m t u now datagram S R S' R' T U T' U' f g is_due sets h =
     let was = was_meant l (meant l t now) datagram is_due in
-    let x = says late l m t f h.here was.0 (outcome l t _ was.0 f.here_tells was.1) in
+    let x = says l t (alone late l m f) h.here was.0 (outcome l t _ was.0 f.here_tells was.1) in
     let after = sends l (acts l t) (l.read datagram) in
     let same : sends l (acts l t) (l.read (l.spell was.0)) ≡ after = ap (λ d. sends l (acts l t) (l.read d)) (sym was.2) in
     let s : Says l t was.0 after = subst (λ b. Says l t was.0 b) same x in
@@ -161,7 +161,7 @@ polls late l m t u now datagram S R S' R' T U T' U' f g is_due sets h =
 pub even_start : (late : ℕ) (l m : Layout) → Facing late l m → Even l.bounds.windows l.own Start
 even_start late l m f = record {
   window = λ p is. absurd (let less = open_cut l.bounds.windows Start p is in omega (arith, less));
-  numbers = omega (arith, f.numbers);
+  numbers = λ less. omega (arith, less);
   bytes = All-nil (λ b. b < 256);
   pieces = λ p. (omega arith, All-nil (λ b. b < 256));
 }

@@ -26,6 +26,25 @@ pub record Facing (late : ℕ) (l m : Layout) : Type 0 where
   pub late_too : l.bounds.windows.window + late ≤ half
   pub numbers : l.own ≤ l.bounds.windows.numbers
 
+-- one end alone: its layout tells parts, and leaves room for its window
+pub record Alone (l : Layout) : Type 0 where
+  pub here : IsLayout l
+  pub here_tells : l.tells_parts ≡ true
+  pub half : ℕ
+  pub here_modulus : l.modulus ≡ 2 * half
+  pub some_half : 0 < half
+  pub one_window : l.bounds.windows.window ≤ half
+
+pub alone : (late : ℕ) (l m : Layout) → Facing late l m → Alone l
+alone late l m f = record {
+  here = f.here;
+  here_tells = f.here_tells;
+  half = f.half;
+  here_modulus = f.here_modulus;
+  some_half = omega (arith, f.some_window, f.two_windows);
+  one_window = omega (arith, f.late_too);
+}
+
 other_twice : (s : Role) → other (other s) ≡ s
 other_twice Server = refl
 other_twice Client = refl

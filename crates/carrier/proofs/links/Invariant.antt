@@ -10,7 +10,7 @@ use Rattle.carrier.specs.Layout.{Carried, Datagram, Telling, named_in, tells}
 
 pub record Even (l : Limits) (own : ℕ) (a : Trace Act) : Type 0 where
   pub window : (p : ℕ) → is_open l a p ≡ true → cuts a ≤ p + l.window
-  pub numbers : own + cuts a ≤ l.numbers
+  pub numbers : own ≤ l.numbers → own + cuts a ≤ l.numbers
   pub bytes : All (λ b. b < 256) (given a)
   pub pieces : (p : ℕ) → (length (piece l a p) ≤ l.part) × All (λ b. b < 256) (piece l a p)
 

@@ -58,7 +58,7 @@ module _ (late : ℕ) (l m : Layout) (f : Facing late l m) (a : Trace Act) (r : 
   some = some_half late l m f
 
   below_numbers : (place : ℕ) → place < cuts a → l.own + place < m.bounds.windows.numbers
-  below_numbers place less = subst (λ (b : Bounds). l.own + place < b.windows.numbers) (sym f.bounds) (omega (arith, less, even.numbers))
+  below_numbers place less = subst (λ (b : Bounds). l.own + place < b.windows.numbers) (sym f.bounds) (omega (arith, less, even.numbers f.numbers))
 
   -- the number of a part
   pub part_is : (c : Carried) → Flies l.bounds.windows l.own k a c → part_read m r n (low_part l c.part) ≡ Some c.part
@@ -95,6 +95,6 @@ module _ (late : ℕ) (l m : Layout) (f : Facing late l m) (a : Trace Act) (r : 
       let half = some in
       let low : l.own + cuts a - 1 ≤ named_in t + f.half = omega (arith, h.near, f.late_too, soon) in
       let high : named_in t < l.own + cuts a - 1 + f.half = omega (arith, h.within, ends, own, half) in
-      let less : named_in t < l.bounds.windows.numbers = omega (arith, h.within, ends, even.numbers) in
+      let less : named_in t < l.bounds.windows.numbers = omega (arith, h.within, ends, even.numbers f.numbers) in
       ap (λ b. read_near l (l.own + cond b (cuts a) (transmissions a) - 1) (low_part m (named_in t))) f.here_tells
       ∙ read_is l f.half m.modulus (l.own + cuts a - 1) (named_in t) f.here_modulus f.there_modulus some low high less

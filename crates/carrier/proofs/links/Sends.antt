@@ -16,15 +16,15 @@ use Rattle.carrier.specs.Sending.{acts, timer, expires, expiry, is_over, is_wait
 use Rattle.carrier.specs.Due.{telling_with, with_part, own_floor, again, fresh, bare, is_pressing, may_send, closes, meant_at}
 use Rattle.carrier.specs.LayoutLaw.{shown_of}
 use Rattle.carrier.proofs.links.Invariant.{Even, Flies, FliesLoad, Low, LowFloor, Grown}
-use Rattle.carrier.proofs.links.Numbers.{open_cut, open_unsettled, open_from, lowest_open, lowest_le, below_lowest, passed_open}
+use Rattle.carrier.proofs.links.Numbers.{open_cut, open_unsettled, open_from, lowest_open, lowest_le, lowest_within, below_lowest, passed_open}
 use Rattle.carrier.proofs.links.Steps.{stays, cuts_within}
-use Rattle.carrier.proofs.links.Facing.{Facing, some_half, nearest_is}
+use Rattle.carrier.proofs.links.Facing.{Alone, nearest_is}
 
 -- ---- which datagrams there are
 
 -- a datagram carries an unsettled part again, or the next part, or none
 pub data Outcome (l : Layout) (t : Trace Entry) (d : Datagram) : Type 0 where
-  Repeats : (p : ℕ) (b : Bool) → is_open l.bounds.windows (acts l t) p ≡ true
+  Repeats : (p : ℕ) (b : Bool) → is_open l.bounds.windows (acts l t) p ≡ true → may_send l (acts l t) ≡ true
       → d ≡ telling_with l t (Some (l.own + lowest_or_next l.bounds.windows (acts l t))) (Some (record { part = l.own + p; transmission = l.own + transmissions (acts l t); bytes = piece l.bounds.windows (acts l t) p })) b → Outcome l t d
   Extends : (b : Bool) → may_cut l.bounds.windows l.own (acts l t) (peer_window l t) ≡ true
       → d ≡ telling_with l t None (Some (record { part = l.own + cuts (acts l t); transmission = l.own + transmissions (acts l t); bytes = next_piece l.bounds.windows (acts l t) })) b → Outcome l t d
@@ -44,14 +44,15 @@ outcome l t at d tells h = by_closed (is_closed l t || closes l t at) h
     by_cut true is e = Extends _ is (some_same _ d e)
     by_cut false is e = by_bare (is_pressing l (owed l t) at) e
 
-    repeats : (p : ℕ) → is_open l.bounds.windows (acts l t) p ≡ true → Some (again l t p) ≡ Some d → Outcome l t d
-    repeats p is e =
+    repeats : (p : ℕ) → is_open l.bounds.windows (acts l t) p ≡ true → may_send l (acts l t) ≡ true → Some (again l t p) ≡ Some d → Outcome l t d
+    repeats p is may e =
         let same : own_floor l (acts l t) ≡ l.own + lowest_or_next l.bounds.windows (acts l t) = ap (λ b. l.own + cond b (lowest_or_next l.bounds.windows (acts l t)) (floor_transmission l.bounds.windows (acts l t))) tells in
-        Repeats p _ is (some_same _ d e ∙ ap (λ x. with_part l t (Some x) (record { part = l.own + p; transmission = l.own + transmissions (acts l t); bytes = piece l.bounds.windows (acts l t) p })) same)
+        Repeats p _ is may (some_same _ d e ∙ ap (λ x. with_part l t (Some x) (record { part = l.own + p; transmission = l.own + transmissions (acts l t); bytes = piece l.bounds.windows (acts l t) p })) same)
 
     by_over : (b : Bool) → is_some (passed_over l.bounds.windows (acts l t)) && may_send l (acts l t) ≡ b
         → cond b (Some (again l t (unwrap_or (passed_over l.bounds.windows (acts l t)) 0))) (cond (may_cut l.bounds.windows l.own (acts l t) (peer_window l t)) (Some (fresh l t)) (bare l t at)) ≡ Some d → Outcome l t d
-    by_over true is e = repeats _ (passed_open l.bounds.windows (acts l t) (and_parts (is_some (passed_over l.bounds.windows (acts l t))) (may_send l (acts l t)) is).0) e
+    by_over true is e = repeats _ (passed_open l.bounds.windows (acts l t) (and_parts (is_some (passed_over l.bounds.windows (acts l t))) (may_send l (acts l t)) is).0)
+        (and_parts (is_some (passed_over l.bounds.windows (acts l t))) (may_send l (acts l t)) is).1 e
     by_over false is e = by_cut (may_cut l.bounds.windows l.own (acts l t) (peer_window l t)) refl e
 
     waits : expires l (timer l t) (acts l t) at && may_send l (acts l t) ≡ true → is_some (lowest l.bounds.windows (acts l t)) ≡ true
@@ -64,7 +65,8 @@ outcome l t at d tells h = by_closed (is_closed l t || closes l t at) h
         → cond b (Some (again l t (lowest_or_next l.bounds.windows (acts l t))))
         (cond (is_some (passed_over l.bounds.windows (acts l t)) && may_send l (acts l t)) (Some (again l t (unwrap_or (passed_over l.bounds.windows (acts l t)) 0)))
         (cond (may_cut l.bounds.windows l.own (acts l t) (peer_window l t)) (Some (fresh l t)) (bare l t at))) ≡ Some d → Outcome l t d
-    by_expiry true is e = repeats _ (lowest_open l.bounds.windows (acts l t) (waits is)) e
+    by_expiry true is e = repeats _ (lowest_open l.bounds.windows (acts l t) (waits is))
+        (and_parts (expires l (timer l t) (acts l t) at) (may_send l (acts l t)) is).1 e
     by_expiry false is e = by_over (is_some (passed_over l.bounds.windows (acts l t)) && may_send l (acts l t)) refl e
 
     by_closed : (b : Bool) → cond b None (cond (expires l (timer l t) (acts l t) at && may_send l (acts l t)) (Some (again l t (lowest_or_next l.bounds.windows (acts l t))))
@@ -101,6 +103,16 @@ cut_pieces l a own p h = by_place (cases_order p (cuts a))
 
 -- ---- what becomes of the sender
 
+-- a part was sent again, or a new one was sent, or none
+pub data Moved (l : Layout) (t : Trace Entry) (d : Datagram) (b : Trace Act) : Type 0 where
+  Repeated : (p : ℕ) → is_open l.bounds.windows (acts l t) p ≡ true → may_send l (acts l t) ≡ true
+      → d.load ≡ Some (record { part = l.own + p; transmission = l.own + transmissions (acts l t); bytes = piece l.bounds.windows (acts l t) p })
+      → b ≡ acts l t ▷ Resent p → Moved l t d b
+  Extended : may_cut l.bounds.windows l.own (acts l t) (peer_window l t) ≡ true
+      → d.load ≡ Some (record { part = l.own + cuts (acts l t); transmission = l.own + transmissions (acts l t); bytes = next_piece l.bounds.windows (acts l t) })
+      → b ≡ acts l t ▷ Cut → Moved l t d b
+  Told : d.load ≡ None → b ≡ acts l t → Moved l t d b
+
 pub record Says (l : Layout) (t : Trace Entry) (d : Datagram) (b : Trace Act) : Type 0 where
   pub shows : l.read (l.spell d) ≡ Shows (shown_of l d)
   pub fits : length (l.spell d) ≤ l.bounds.datagram
@@ -109,6 +121,7 @@ pub record Says (l : Layout) (t : Trace Entry) (d : Datagram) (b : Trace Act) : 
   pub load : FliesLoad l.bounds.windows l.own 0 b d.load
   pub low : LowFloor l.bounds.windows l.own 0 b d.floor
   pub even : Even l.bounds.windows l.own b
+  pub moved : Moved l t d b
 
 -- what may be cut
 pub cut_facts : (l : Limits) (first : ℕ) (a : Trace Act) (window : ℕ) → may_cut l first a window ≡ true → (cuts a < lowest_or_next l a + l.window) × (first + cuts a < l.numbers)
@@ -121,6 +134,10 @@ cut_facts l first a window h =
     let y = p2.1 in
     let room : cuts a < lowest_or_next l a + min l.window window = grind (arith, nat_tests) in
     (omega (arith, room), grind (arith, nat_tests))
+
+-- so the window has a place
+pub some_window : (l : Limits) (a : Trace Act) → cuts a < lowest_or_next l a + l.window → 0 < l.window
+some_window l a less = omega (arith, less, lowest_within l a)
 
 -- ---- a part that is sent again
 
@@ -135,34 +152,35 @@ resent_even l own a p h = record { window = h.window; numbers = h.numbers; bytes
 cut_grown : (l : Limits) (own : ℕ) (a : Trace Act) → Grown l a (a ▷ Cut)
 cut_grown l own a = record { more = omega arith; most = omega arith; same = λ q less. piece_before l a q less; settles = λ q. refl; given_is = refl }
 
-cut_even : (l : Limits) (own : ℕ) (a : Trace Act) (window : ℕ) → 0 < l.window → may_cut l own a window ≡ true → Even l own a → Even l own (a ▷ Cut)
-cut_even l own a window some may h =
+cut_even : (l : Limits) (own : ℕ) (a : Trace Act) (window : ℕ) → may_cut l own a window ≡ true → Even l own a → Even l own (a ▷ Cut)
+cut_even l own a window may h =
     let facts = cut_facts l own a window may in
+    let some = some_window l a facts.0 in
     record {
-      window = λ q is. open_q q is facts.0 (cases_lt q (cuts a));
-      numbers = omega (arith, facts.1);
+      window = λ q is. open_q q is some facts.0 (cases_lt q (cuts a));
+      numbers = λ less. omega (arith, facts.1);
       bytes = h.bytes;
       pieces = λ p. cut_pieces l a own p h;
     }
   where
-    open_q : (q : ℕ) → is_open l (a ▷ Cut) q ≡ true → cuts a < lowest_or_next l a + l.window → (q < cuts a) ⊎ (cuts a ≤ q) → cuts a + 1 ≤ q + l.window
-    open_q q is room (inl less) = omega (arith, room, lowest_le l a q (open_from l a q less (open_unsettled l (a ▷ Cut) q is)))
-    open_q q is room (inr ge) = omega (arith, some, ge)
+    open_q : (q : ℕ) → is_open l (a ▷ Cut) q ≡ true → 0 < l.window → cuts a < lowest_or_next l a + l.window → (q < cuts a) ⊎ (cuts a ≤ q) → cuts a + 1 ≤ q + l.window
+    open_q q is some room (inl less) = omega (arith, room, lowest_le l a q (open_from l a q less (open_unsettled l (a ▷ Cut) q is)))
+    open_q q is some room (inr ge) = omega (arith, some, ge)
 
 -- ---- all that a poll sends
 
-module _ (late : ℕ) (l m : Layout) (t : Trace Entry) (f : Facing late l m) (h : Even l.bounds.windows l.own (acts l t)) where
-  says_again : (p : ℕ) (b : Bool) → is_open l.bounds.windows (acts l t) p ≡ true
+module _ (l : Layout) (t : Trace Entry) (f : Alone l) (h : Even l.bounds.windows l.own (acts l t)) where
+  says_again : (p : ℕ) (b : Bool) → is_open l.bounds.windows (acts l t) p ≡ true → may_send l (acts l t) ≡ true
       → (let d = telling_with l t (Some (l.own + lowest_or_next l.bounds.windows (acts l t))) (Some (record { part = l.own + p; transmission = l.own + transmissions (acts l t); bytes = piece l.bounds.windows (acts l t) p })) b in
       Says l t d (sends l (acts l t) (l.read (l.spell d))))
-  says_again p b is =
+  says_again p b is may =
       let a = acts l t in
       let c : Carried = record { part = l.own + p; transmission = l.own + transmissions a; bytes = piece l.bounds.windows a p } in
       let shows = f.here.read_back (received l t) (floor l t) b (Some (l.own + lowest_or_next l.bounds.windows a)) (Some c) (h.pieces p) in
       let cut = open_cut l.bounds.windows a p is in
       let near = h.window p is in
-      let room = f.two_windows in
-      let number = nearest_is l f.half (l.own + cuts a) (l.own + p) f.here_modulus (some_half late l m f) (omega arith) (omega (arith, cut)) in
+      let room = f.one_window in
+      let number = nearest_is l f.half (l.own + cuts a) (l.own + p) f.here_modulus f.some_half (omega arith) (omega (arith, cut, f.some_half)) in
       let other' : eqb (l.own + p) (l.own + cuts a) ≡ false = grind (arith, nat_tests) in
       let place : l.own + p - l.own ≡ p = omega arith in
       let moves : sends l a (Shows (shown_of l (telling_with l t (Some (l.own + lowest_or_next l.bounds.windows a)) (Some c) b))) ≡ a ▷ Resent p =
@@ -184,6 +202,7 @@ module _ (late : ℕ) (l m : Layout) (t : Trace Entry) (f : Facing late l m) (h 
               near = omega (arith, cuts_within l.bounds.windows l.own a h);
             });
         even = subst (λ s. Even l.bounds.windows l.own s) (sym (ap (sends l a) shows ∙ moves)) (resent_even l.bounds.windows l.own a p h);
+        moved = Repeated p is may refl (ap (sends l a) shows ∙ moves);
       }
 
   says_new : (b : Bool) → may_cut l.bounds.windows l.own (acts l t) (peer_window l t) ≡ true
@@ -194,7 +213,7 @@ module _ (late : ℕ) (l m : Layout) (t : Trace Entry) (f : Facing late l m) (h 
       let c : Carried = record { part = l.own + cuts a; transmission = l.own + transmissions a; bytes = next_piece l.bounds.windows a } in
       let carried = next_fits l.bounds.windows a h.bytes in
       let shows = f.here.read_back (received l t) (floor l t) b None (Some c) carried in
-      let some = some_half late l m f in
+      let some = f.some_half in
       let number = nearest_is l f.half (l.own + cuts a) (l.own + cuts a) f.here_modulus some (omega arith) (omega (arith, some)) in
       let same : eqb (l.own + cuts a) (l.own + cuts a) ≡ true = grind (arith, nat_tests) in
       let moves : sends l a (Shows (shown_of l (telling_with l t None (Some c) b))) ≡ a ▷ Cut =
@@ -205,9 +224,10 @@ module _ (late : ℕ) (l m : Layout) (t : Trace Entry) (f : Facing late l m) (h 
         telling = refl;
         grown = subst (λ s. Grown l.bounds.windows a s) (sym (ap (sends l a) shows ∙ moves)) (cut_grown l.bounds.windows l.own a);
         load = subst (λ s. Flies l.bounds.windows l.own 0 s c) (sym (ap (sends l a) shows ∙ moves))
-            (record { place = cuts a; number = refl; cut = omega arith; bytes = sym (piece_next l.bounds.windows a); near = omega (arith, f.some_window) });
+            (record { place = cuts a; number = refl; cut = omega arith; bytes = sym (piece_next l.bounds.windows a); near = omega (arith, some_window l.bounds.windows a (cut_facts l.bounds.windows l.own a (peer_window l t) may).0) });
         low = tt;
-        even = subst (λ s. Even l.bounds.windows l.own s) (sym (ap (sends l a) shows ∙ moves)) (cut_even l.bounds.windows l.own a (peer_window l t) f.some_window may h);
+        even = subst (λ s. Even l.bounds.windows l.own s) (sym (ap (sends l a) shows ∙ moves)) (cut_even l.bounds.windows l.own a (peer_window l t) may h);
+        moved = Extended may refl (ap (sends l a) shows ∙ moves);
       }
 
   says_bare : Says l t (telling_with l t None None true) (sends l (acts l t) (l.read (l.spell (telling_with l t None None true))))
@@ -222,9 +242,10 @@ module _ (late : ℕ) (l m : Layout) (t : Trace Entry) (f : Facing late l m) (h 
         load = tt;
         low = tt;
         even = subst (λ s. Even l.bounds.windows l.own s) (sym (ap (sends l a) shows)) h;
+        moved = Told refl (ap (sends l a) shows);
       }
 
   pub says : (d : Datagram) → Outcome l t d → Says l t d (sends l (acts l t) (l.read (l.spell d)))
-  says d (Repeats p b is e) = subst (λ x. Says l t x (sends l (acts l t) (l.read (l.spell x)))) (sym e) (says_again p b is)
+  says d (Repeats p b is may e) = subst (λ x. Says l t x (sends l (acts l t) (l.read (l.spell x)))) (sym e) (says_again p b is may)
   says d (Extends b may e) = subst (λ x. Says l t x (sends l (acts l t) (l.read (l.spell x)))) (sym e) (says_new b may)
   says d (Tells e) = subst (λ x. Says l t x (sends l (acts l t) (l.read (l.spell x)))) (sym e) says_bare

@@ -12,6 +12,7 @@ use Rattle.carrier.specs.Receiving.{shown_in, accepted}
 use Rattle.carrier.specs.Law.{Faithful}
 use Rattle.carrier.specs.LayoutLaw.{IsLayout, IsCarried, shown_of}
 use Rattle.carrier.specs.Joined.{half, Timely}
+use Rattle.carrier.specs.Faithful.{TellsParts}
 use Rattle.carrier.specs.TwoLinks.{Margins, Net}
 use Rattle.carrier.specs.SmallWorld.{small, small_layouts, small_world, shows_small, spelled_small, bit}
 
@@ -169,6 +170,20 @@ small_net = record { margins = small_margins; faithful = faithful; timely = smal
     faithful : (s : Role) → Faithful (small_layouts s) (half s small_world)
     faithful Server = server_faithful
     faithful Client = client_faithful
+
+pub small_asks : (s : Role) → TellsParts (small_layouts s)
+small_asks Server = record {
+  lawful = small_margins.layout Server;
+  tells_parts = refl;
+  some_part = omega arith;
+  half_window = omega arith;
+}
+small_asks Client = record {
+  lawful = small_margins.layout Client;
+  tells_parts = refl;
+  some_part = omega arith;
+  half_window = omega arith;
+}
 
 pub small_passes : passed (accepted (small_layouts Client) (half Client small_world)) ≡ 10 ∷ 20 ∷ 30 ∷ []
 unfolding nearest

@@ -134,7 +134,7 @@ way_hears l own a b parts n S R h g = record {
 pub even_hears : (l : Limits) (own : ℕ) (a b : Trace Act) (parts : Parts) → Hears l a b parts → given b ≡ given a → Even l own a → Even l own b
 even_hears l own a b parts g is_given h = record {
   window = λ p is. let cut = open_cut l b p is in omega (arith, g.cuts_are, h.window p (open_from l a p (omega (arith, cut, g.cuts_are)) (was (settled l a p) p refl is)));
-  numbers = omega (arith, g.cuts_are, h.numbers);
+  numbers = λ less. omega (arith, g.cuts_are, h.numbers less);
   bytes = subst (All (λ b. b < 256)) (sym is_given) h.bytes;
   pieces = λ p. subst (λ xs. (length xs ≤ l.part) × All (λ b. b < 256) xs) (sym (g.pieces_are p)) (h.pieces p);
 }

@@ -1,4 +1,4 @@
-use Rattle.std.proofs.Common.{◌≡◌, ◌++◌, ◌∷◌, [], Some, sym, ap, ◌∙◌, subst, if◌then◌else◌}
+use Rattle.std.proofs.Common.{◌++◌, ◌∷◌, [], Some, sym, ap, ◌∙◌, subst, if◌then◌else◌}
 use Rattle.carrier.specs.Receiving.{receives, floor_shown, owes}
 use Rattle.carrier.specs.Sending.{hears_telling, timer_told}
 use Rattle.carrier.specs.Law.{answer_load}
@@ -25,8 +25,8 @@ returns-clause-sends c coded acts told timer s shows speaks =
     let now = subst (λ m. Speaks m.sender acts told timer) (sym view) speaks in
     let heard = c.hear.ensures.stands m.receiver.delay m.receiver.peer acts told timer now in
     subst (λ m. Speaks c.hear.new.self (hears_telling (layout_of m) acts s.telling) window (timer_told (layout_of m) timer acts (hears_telling (layout_of m) acts s.telling) m.moment)) view
-        (let l = layout_of (record { moment = m.moment; sender = m.sender; receiver = m.receiver }) in
-        subst (λ x. Speaks c.hear.new.self (hears_telling l acts x) window (timer_told l timer acts (hears_telling l acts x) m.moment)) (sym shows.telling_is) heard)
+    (let l = layout_of (record { moment = m.moment; sender = m.sender; receiver = m.receiver }) in
+    subst (λ x. Speaks c.hear.new.self (hears_telling l acts x) window (timer_told l timer acts (hears_telling l acts x) m.moment)) (sym shows.telling_is) heard)
 
 pub returns-clause-hears : goal.returns-clause-hears
 returns-clause-hears c coded got n floor owed s shows hears =
@@ -34,4 +34,4 @@ returns-clause-hears c coded got n floor owed s shows hears =
     let m = c.self.inside in
     let now = subst (λ m. Hears m.receiver got.parts n floor owed) (sym view) hears in
     subst (λ m. Hears c.take.new.self (receives (layout_of m) got n (Some s)).parts n (floor_shown (layout_of m) got n (receives (layout_of m) got n (Some s)) floor (Some s)) (if owes (layout_of m) got n (Some s) then owed ++ m.moment ∷ [] else owed)) view
-        (c.take.ensures.stands m.sender.wait m.sender.own coded got n floor owed s shows.load_is shows.floor_is now)
+    (c.take.ensures.stands m.sender.wait m.sender.own coded got n floor owed s shows.load_is shows.floor_is now)

@@ -1,4 +1,4 @@
-use Rattle.std.proofs.Common.{◌<◌, ◌≡◌, OnOk, Ok, Result, sym, subst, arith}
+use Rattle.std.proofs.Common.{◌<◌, sym, subst, arith}
 use Rattle.std.proofs.lemmas.List.Elements.{All-from_get_or}
 use Rattle.udp1_core.specs.MachineView.{Stands}
 use Rattle.udp1_core.proofs.Steps.{where_ok, gives, at_layout, same_sender}
@@ -7,13 +7,13 @@ use Rattle.udp1_core.proofs.machine.Udp1CoreCarrier.give.Goals as goal
 
 pub returns-clause-trace : goal.returns-clause-trace
 returns-clause-trace c = elim c.match-give.branch [
-    in-Ok w ↦ rw (w.result-is) (λ t h.
-        let m = c.self.inside in
-        let now = subst (λ m. Stands m t) (sym c.self.view_is) h in
-        let p = c.give.ensures in
-        let speaks = where_ok c.give.result _ w.in-Ok.is p.stands _ _ _ now.sends in
-        let good = All-from_get_or (λ b. b < 256) c.args.bytes.now 0 (λ i within. omega (arith, c.type_inv.bytes i)) in
-        let same = same_sender (record { moment = m.moment; sender = m.sender; receiver = m.receiver }) c.give.new.self p.wait p.own in
-        at_layout _ _ _ _ same (gives _ _ c.give.new.self t c.args.bytes.now speaks speaks.sends.queue_bound good now))
+  | in-Ok w ↦ rw (w.result-is) (λ t h.
+      let m = c.self.inside in
+      let now = subst (λ m. Stands m t) (sym c.self.view_is) h in
+      let p = c.give.ensures in
+      let speaks = where_ok c.give.result _ w.in-Ok.is p.stands _ _ _ now.sends in
+      let good = All-from_get_or (λ b. b < 256) c.args.bytes.now 0 (λ i within. omega (arith, c.type_inv.bytes i)) in
+      let same = same_sender (record { moment = m.moment; sender = m.sender; receiver = m.receiver }) c.give.new.self p.wait p.own in
+      at_layout _ _ _ _ same (gives _ _ c.give.new.self t c.args.bytes.now speaks speaks.sends.queue_bound good now))
   | in-Err w ↦ rw (w.result-is) tt
-  ]
+]

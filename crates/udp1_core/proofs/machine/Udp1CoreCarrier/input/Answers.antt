@@ -1,19 +1,14 @@
-use Rattle.std.proofs.Common.{◌≡◌, ◌<◌, ◌≤◌, ℕ, true, false, Some, max, length, sym, ap, ◌∙◌, subst, nat_lt, unwrap_or, if◌then◌else◌, arith}
+use Rattle.std.proofs.Common.{◌≡◌, Some, sym, ap, ◌∙◌, subst, unwrap_or}
 use Rattle.std.specs.Option.{IfSome}
 use Rattle.mt_base.specs.Trace.{◌▷◌}
-use Rattle.udp1_packets.specs.Faults.{Refused}
-use Rattle.udp1_packets.specs.Layout.{Spells}
 use Rattle.udp1_packets.specs.Views.{packet_of}
 use Rattle.carrier.specs.Entries.{In}
-use Rattle.carrier.specs.Layout.{Refuses, Reading}
-use Rattle.carrier.specs.Receiving.{reading, peer_window, received}
+use Rattle.carrier.specs.Receiving.{peer_window, received}
 use Rattle.carrier.specs.Sending.{acts, hears, timer, timer_told}
 use Rattle.udp1_core.specs.SenderView.{Speaks}
-use Rattle.carrier.specs.declared.state.Took.TheVariants.{Ignored}
 use Rattle.carrier.specs.declared.state.Reason.TheVariants as reason
 use Rattle.udp1_core.specs.declared.contents.Contents.{Contents}
 use Rattle.udp1_core.specs.ContentsView.{IsFit}
-use Rattle.udp1_core.specs.FirstLayout.{shows}
 use Rattle.udp1_core.specs.MachineView.{Machine, Stands, StandsIn, layout_of}
 use Rattle.udp1_core.proofs.Shown.{shows_packet, shows_refusal}
 use Rattle.udp1_core.proofs.Steps.{at_layout}
@@ -36,9 +31,9 @@ returns-then-datagram-gt-DATAGRAM-clause-trace c t h =
 pub take-requires : goal.take-requires
 take-requires c =
     fit_of c.in-Some.contents c.in-Some.is (c.contents_of.ensures.fit c.in-Ok.ensures.found.is (body_fits c.args.datagram.now (packet_of c.in-Ok.packet) c.in-Ok.ensures.found c.if-datagram-gt-DATAGRAM.false))
-    where
-  fit_of : (x : Contents) → c.contents_of.result ≡ Some x → IfSome c.contents_of.result IsFit → IsFit x
-  fit_of x is fit = subst (λ r. IfSome r IsFit) is fit
+  where
+    fit_of : (x : Contents) → c.contents_of.result ≡ Some x → IfSome c.contents_of.result IsFit → IsFit x
+    fit_of x is fit = subst (λ r. IfSome r IsFit) is fit
 
 pub returns-in-Some-clause-trace : goal.returns-in-Some-clause-trace
 returns-in-Some-clause-trace c t h =

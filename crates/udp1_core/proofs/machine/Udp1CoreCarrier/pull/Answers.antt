@@ -1,4 +1,4 @@
-use Rattle.std.proofs.Common.{sym, subst, refl}
+use Rattle.std.proofs.Common.{sym, subst}
 use Rattle.mt_windows.specs.ArrivedView.{left_of}
 use Rattle.udp1_core.specs.MachineView.{Stands}
 use Rattle.udp1_core.proofs.Steps.{pulls, at_layout, same_receiver}

@@ -1,0 +1,31 @@
+use Rattle.udp1_core.proofs.FirstLinks.{margins, net}
+use Rattle.udp1_core.specs.FirstLink.{link_layouts}
+use Rattle.udp1_core.proofs.joined.first_links_join.Goals as goal
+
+pub returns-clause-margins : goal.returns-clause-margins
+returns-clause-margins c late server client version server_number client_number in_time =
+    margins late server client version server_number client_number in_time
+
+pub returns-clause-read : goal.returns-clause-read
+returns-clause-read c late server client version w h =
+    c.joined_links.ensures.read late (link_layouts server client version) w (net late server client version w h)
+
+pub returns-clause-arrive : goal.returns-clause-arrive
+returns-clause-arrive c late server client version w h s =
+    c.joined_links.ensures.arrive late (link_layouts server client version) w (net late server client version w h) s
+
+pub returns-clause-prefix : goal.returns-clause-prefix
+returns-clause-prefix c late server client version w h s =
+    c.joined_links.ensures.prefix late (link_layouts server client version) w (net late server client version w h) s
+
+pub returns-clause-pulled : goal.returns-clause-pulled
+returns-clause-pulled c late server client version w h s =
+    c.joined_links.ensures.pulled late (link_layouts server client version) w (net late server client version w h) s
+
+pub returns-clause-apart : goal.returns-clause-apart
+returns-clause-apart c late server client version w h s =
+    c.joined_links.ensures.apart late (link_layouts server client version) w (net late server client version w h) s
+
+pub returns-clause-ahead : goal.returns-clause-ahead
+returns-clause-ahead c late server client version w h s =
+    c.joined_links.ensures.ahead late (link_layouts server client version) w (net late server client version w h) s
