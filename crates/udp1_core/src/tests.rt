@@ -1,38 +1,47 @@
-use super::*;
-use carrier::{Carrier, LinkState, Reason, Took};
-use std::test::*;
+//! Stories of one end, and of two.
 
-/// Polls the link, and says whether it sends just these bytes.
-fn sends(link: &mut Udp1Core, now: u64, bytes: &[u8]) -> bool {
+ghost use Rattle.std.specs.Prelude.{◌<◌, ◌^◌};
+
+mod arrival;
+mod pair;
+mod refusals;
+mod tellings;
+mod timer;
+
+use super::*;
+use carrier::Carrier;
+
+/// The length of the datagram that the link sends at this moment.
+fn sent_length(link: &mut Udp1Core, now: u64) -> Option<usize>
+    requires { now < 2 ^ 62 }
+{
+    let mut out = [0; 1232];
+    link.poll(now, &mut out)
+}
+
+/// Whether the link sends a datagram at this moment.
+fn is_sending(link: &mut Udp1Core, now: u64) -> bool
+    requires { now < 2 ^ 62 }
+{
+    sent_length(link, now).is_some()
+}
+
+/// Whether the link sends nothing at this moment.
+fn is_silent(link: &mut Udp1Core, now: u64) -> bool
+    requires { now < 2 ^ 62 }
+{
+    sent_length(link, now).is_none()
+}
+
+/// Whether the link sends just these bytes at this moment.
+fn sends(link: &mut Udp1Core, now: u64, bytes: &[u8]) -> bool
+    requires { now < 2 ^ 62 }
+{
     let mut out = [0; 1232];
     match link.poll(now, &mut out) {
-        Some(length) => out[..length].iter().eq(bytes),
+        Some(length) => &out[..length] == bytes,
         None => false,
     }
-}
-
-/// Polls the link, and says whether it sends nothing.
-fn is_silent(link: &mut Udp1Core, now: u64) -> bool {
-    let mut out = [0; 1232];
-    link.poll(now, &mut out).is_none()
-}
-
-#[test]
-fn a_part_is_sent_again_after_half_a_second(rt: HostRuntime) {
-    let Ok(mut link) = Udp1Core::new(rt.alloc(), 1, 1, 0x0001) else {
-        return;
-    };
-    assert!(rt; link.give(&[0x41, 0x42]).is_ok());
-    assert_eq!(rt; link.queued(), 2);
-    let first = [
-        0, 0, 0, 1, 0, 0x40, 0, 8, 0, 0, 0, 2, 0, 0, 0, 2, 0x41, 0x42,
-    ];
-    assert!(rt; sends(&mut link, 0, &first));
-    assert!(rt; is_silent(&mut link, 499));
-    let again = [
-        0, 0, 0, 1, 0, 0x40, 1, 8, 0, 0, 0, 2, 0, 0, 0, 3, 0, 0, 0, 2, 0x41, 0x42,
-    ];
-    assert!(rt; sends(&mut link, 500, &again));
 }
 
 #[test]
