@@ -1,3 +1,4 @@
 pub mod Handshake
 pub mod OpeningView
+pub mod LinkTrace
 pub mod Agreeing
