@@ -2,3 +2,4 @@ pub mod Handshake
 pub mod OpeningView
 pub mod LinkTrace
 pub mod Agreeing
+pub mod TwoLinks

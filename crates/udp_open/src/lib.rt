@@ -11,12 +11,14 @@
 mod agreement;
 mod flags;
 mod hearing;
+mod joined;
 mod laws;
 mod opening;
 mod sending;
 mod settings;
 mod timer;
 
+pub use joined::two_links;
 pub use laws::{agreements_stay, both_agree, closed_for_good, openings_are_due};
 pub use opening::{OpenEnd, Opening};
 pub use settings::{OpenSettings, hash_cookie};

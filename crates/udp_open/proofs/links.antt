@@ -1,0 +1,4 @@
+-- The proof of the law of two joined links that open.
+pub mod Flag
+pub mod Opened
+pub mod Machines

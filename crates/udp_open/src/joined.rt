@@ -1,0 +1,31 @@
+//! The law of two joined links, from their opening on.
+
+ghost use Rattle.std.specs.Prelude.{ℕ};
+ghost use Rattle.mt_base.specs.declared.kinds.Role.{Role};
+ghost use Rattle.mt_base.specs.Trace.{Trace};
+ghost use Rattle.carrier.specs.Joined.{Step};
+ghost use Rattle.udp_open.specs.declared.settings.OpenSettings.{OpenSettings};
+ghost use Rattle.udp_open.specs.TwoLinks.{AgreesIn, LinkNet, LinkPassed, LinkPulled, MachinesRead, PartsArrive};
+
+use udp1_core::first_links_join;
+
+/// Two ends of one link, which opens and then carries bytes, joined by a network that loses, copies
+/// and reorders datagrams and makes none, and that brings none too late. An end that agreed has the
+/// lower of the two versions and the initial number of the other end. Each datagram that comes at
+/// its machine is read as it was meant; a part that is settled at one end was accepted at the other,
+/// with the same bytes; and the bytes that one end passed, or that were pulled of it, are the first
+/// of those that were given to the other, also before it had opened.
+pub fn two_links()
+    ensures agree { (late : ℕ) (settings : Role → OpenSettings) (w : Trace Step) → LinkNet late settings w
+        → (s : Role) → AgreesIn settings w s }
+    ensures read { (late : ℕ) (settings : Role → OpenSettings) (w : Trace Step) → LinkNet late settings w
+        → MachinesRead late settings w }
+    ensures arrive { (late : ℕ) (settings : Role → OpenSettings) (w : Trace Step) → LinkNet late settings w
+        → (s : Role) → PartsArrive settings w s }
+    ensures prefix { (late : ℕ) (settings : Role → OpenSettings) (w : Trace Step) → LinkNet late settings w
+        → (s : Role) → LinkPassed settings w s }
+    ensures pulled { (late : ℕ) (settings : Role → OpenSettings) (w : Trace Step) → LinkNet late settings w
+        → (s : Role) → LinkPulled w s }
+{
+    first_links_join();
+}
