@@ -2,3 +2,5 @@
 pub mod Flag
 pub mod Opened
 pub mod Machines
+pub mod Network
+pub mod Whole

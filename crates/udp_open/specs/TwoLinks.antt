@@ -1,7 +1,6 @@
 -- Two ends of one link, which opens and then changes to its machines, joined by a network that loses,
 -- copies and reorders datagrams, and makes none.
 use Rattle.std.specs.Prelude.{◌≡◌, ℕ, ◌+◌, ◌<◌, ◌≤◌, ◌^◌, min, List, [], ◌∷◌, ◌++◌, IfSome}
-use Rattle.mt_base.specs.declared.kinds.Kind.{Kind}
 use Rattle.mt_base.specs.declared.kinds.Kind.TheVariants.{Reliable}
 use Rattle.mt_base.specs.declared.kinds.Role.{Role}
 use Rattle.mt_base.specs.declared.kinds.Role.TheVariants.{Server, Client}
@@ -15,7 +14,6 @@ use Rattle.carrier.specs.Joined.{Step, At, half, Timely}
 use Rattle.carrier.specs.TwoLinks.{AllRead, SettledArrive, arrived_from}
 use Rattle.udp1_core.specs.FirstLink.{link_layouts}
 use Rattle.udp_open.specs.declared.settings.OpenSettings.{OpenSettings}
-use Rattle.udp_open.specs.declared.agreement.Agreement.{Agreement}
 use Rattle.udp_open.specs.Handshake.{agreed}
 use Rattle.udp_open.specs.OpeningView.{IsOffered}
 use Rattle.udp_open.specs.Agreeing.{AgreesWith}
@@ -72,7 +70,8 @@ PartsArrive settings w s = SettledArrive (layouts_of settings) (machines setting
 abbrev pub LinkPassed : (Role → OpenSettings) → Trace Step → Role → Type 0
 LinkPassed settings w s =
     (more : List ℕ)
-    × (given (half s w) ≡ passed (arrived_from (layouts_of settings) (machines settings w) s) ++ more)
+    × (given (half s w) ≡ passed (arrived_from (layouts_of settings) (machines settings w) s)
+    ++ more)
 
 -- so is what was pulled of it
 abbrev pub LinkPulled : Trace Step → Role → Type 0

@@ -16,16 +16,16 @@ use udp1_core::first_links_join;
 /// with the same bytes; and the bytes that one end passed, or that were pulled of it, are the first
 /// of those that were given to the other, also before it had opened.
 pub fn two_links()
-    ensures agree { (late : ℕ) (settings : Role → OpenSettings) (w : Trace Step) → LinkNet late settings w
-        → (s : Role) → AgreesIn settings w s }
-    ensures read { (late : ℕ) (settings : Role → OpenSettings) (w : Trace Step) → LinkNet late settings w
-        → MachinesRead late settings w }
-    ensures arrive { (late : ℕ) (settings : Role → OpenSettings) (w : Trace Step) → LinkNet late settings w
-        → (s : Role) → PartsArrive settings w s }
-    ensures prefix { (late : ℕ) (settings : Role → OpenSettings) (w : Trace Step) → LinkNet late settings w
-        → (s : Role) → LinkPassed settings w s }
-    ensures pulled { (late : ℕ) (settings : Role → OpenSettings) (w : Trace Step) → LinkNet late settings w
-        → (s : Role) → LinkPulled w s }
+    ensures agree { (late : ℕ) (settings : Role → OpenSettings) (w : Trace Step)
+        → LinkNet late settings w → (s : Role) → AgreesIn settings w s }
+    ensures read { (late : ℕ) (settings : Role → OpenSettings) (w : Trace Step)
+        → LinkNet late settings w → MachinesRead late settings w }
+    ensures arrive { (late : ℕ) (settings : Role → OpenSettings) (w : Trace Step)
+        → LinkNet late settings w → (s : Role) → PartsArrive settings w s }
+    ensures prefix { (late : ℕ) (settings : Role → OpenSettings) (w : Trace Step)
+        → LinkNet late settings w → (s : Role) → LinkPassed settings w s }
+    ensures pulled { (late : ℕ) (settings : Role → OpenSettings) (w : Trace Step)
+        → LinkNet late settings w → (s : Role) → LinkPulled w s }
 {
     first_links_join();
 }

@@ -1,5 +1,5 @@
 -- The flag SYN of the datagrams that come and are sent.
-use Rattle.std.proofs.Common.{◌≡◌, ℕ, ◌+◌, ◌*◌, ◌^◌, ◌%◌, ◌<◌, ◌≤◌, Bool, true, false, ◌&&◌, not, eqb, bit_and, List, length, drop, get_or, slice_index, Option, Some, None, Result, Ok, Err, refl, sym, ap, ◌∙◌, subst, length-drop, arith}
+use Rattle.std.proofs.Common.{◌≡◌, ℕ, ◌+◌, ◌*◌, ◌%◌, ◌<◌, ◌≤◌, Bool, true, false, ◌&&◌, not, bit_and, List, length, drop, get_or, slice_index, Option, Some, None, Result, Ok, Err, refl, sym, ap, ◌∙◌, subst, length-drop, arith}
 use Rattle.std.specs.Prelude.{nat_lt, ◌==◌, if◌then◌else◌}
 use Rattle.std.specs.Option.{option_map, is_some}
 use Rattle.std.proofs.lemmas.Bool.{ltb-false}
@@ -14,21 +14,19 @@ use Rattle.mt_base.specs.declared.kinds.Role.{Role}
 use Rattle.mt_base.specs.declared.kinds.Role.TheVariants.{Server, Client}
 use Rattle.mt_base.specs.Parts.{◌>>=◌}
 use Rattle.mt_base.specs.Reading.{Left, past, block, big}
-use Rattle.mt_base.specs.Trace.{Trace}
 use Rattle.mt_windows.specs.declared.limits.TheConstants.{DATAGRAM, WINDOW}
 use Rattle.carrier.specs.declared.first_layout.Refusal1.{Refusal1}
 use Rattle.carrier.specs.declared.first_layout.Refusal1.TheVariants as refusal
 use Rattle.carrier.specs.declared.state.Reason.TheVariants as reason
-use Rattle.carrier.specs.Entries.{Entry}
 use Rattle.carrier.specs.Layout.{Datagram, Carried, named_in}
 use Rattle.udp1_core.specs.FirstLayout.{body_of, packet_with, vector_in, low}
-use Rattle.udp1_packets.specs.Layout.{flags, flag_if, has, spelled, announced}
-use Rattle.udp1_packets.specs.Reading.{cut, packet_at, body_at, told_at, opening_at, rest_at, fec_at, data_at, vector_where, number_where, marks_in}
-use Rattle.udp1_packets.specs.Value.{Body, SynBody, DataBody, FecBody, BareBody, Packet}
+use Rattle.udp1_packets.specs.Layout.{flag_if, has, spelled, announced}
+use Rattle.udp1_packets.specs.Reading.{cut, packet_at, body_at, told_at, opening_at, rest_at, fec_at, data_at, vector_where, number_where}
+use Rattle.udp1_packets.specs.Value.{Body, DataBody, FecBody, BareBody, Packet}
 use Rattle.udp_open.specs.declared.settings.OpenSettings.{OpenSettings}
 use Rattle.udp_open.specs.declared.agreement.Agreement.{Agreement}
 use Rattle.udp_open.specs.declared.timer.Timer.{Timer}
-use Rattle.udp_open.specs.Handshake.{shown, packet_or, opening, marks_of, names, syn, syn_ack, sent, is_time, row}
+use Rattle.udp_open.specs.Handshake.{packet_or, opening, marks_of, names, syn, syn_ack, sent, is_time, row}
 use Rattle.udp_open.specs.Agreeing.{is_syn, shows_syn, is_opening}
 use Rattle.udp_open.specs.LinkTrace.{has_syn}
 
@@ -79,15 +77,15 @@ data_plain : (vector : Option (List ℕ)) (aoa : Option ℕ) (s : Left) → IfRe
 unfolding data_at
 data_plain vector aoa s =
     then_read {A = ℕ × Left} IsPlain (cut (big 4 s)) _ (λ coded. then_read {A = ℕ × Left} IsPlain (cut (big 4 coded.1)) _ (λ start.
-      ok_read IsPlain (DataBody vector aoa coded.0 start.0 (start.1).bytes) refl))
+    ok_read IsPlain (DataBody vector aoa coded.0 start.0 (start.1).bytes) refl))
 
 fec_plain : (vector : Option (List ℕ)) (aoa : Option ℕ) (s : Left) → IfRead IsPlain (fec_at vector aoa s)
 unfolding fec_at
 fec_plain vector aoa s =
     then_read {A = ℕ × Left} IsPlain (cut (big 4 s)) _ (λ coded. then_read {A = ℕ × Left} IsPlain (cut (big 4 coded.1)) _ (λ start.
-      then_read {A = ℕ × Left} IsPlain (cut (big 1 start.1)) _ (λ range. then_read {A = ℕ × Left} IsPlain (cut (big 1 range.1)) _ (λ index.
-        then_read {A = List ℕ × Left} IsPlain (cut (block 2 index.1)) _ (λ padding.
-          ok_read IsPlain (FecBody vector aoa coded.0 start.0 range.0 index.0 (padding.1).bytes) refl)))))
+    then_read {A = ℕ × Left} IsPlain (cut (big 1 start.1)) _ (λ range. then_read {A = ℕ × Left} IsPlain (cut (big 1 range.1)) _ (λ index.
+    then_read {A = List ℕ × Left} IsPlain (cut (block 2 index.1)) _ (λ padding.
+    ok_read IsPlain (FecBody vector aoa coded.0 start.0 range.0 index.0 (padding.1).bytes) refl)))))
 
 rest_plain : (word : ℕ) (vector : Option (List ℕ)) (aoa : Option ℕ) (s : Left) → IfRead IsPlain (rest_at word vector aoa s)
 unfolding rest_at
@@ -100,7 +98,7 @@ told_plain : (word : ℕ) (s : Left) → IfRead IsPlain (told_at word s)
 unfolding told_at
 told_plain word s =
     then_read {A = Option (List ℕ) × Left} IsPlain (vector_where (has word 0x0004) s) _ (λ vector.
-      then_read {A = Option ℕ × Left} IsPlain (number_where (has word 0x0100) vector.1) _ (λ aoa. rest_plain word vector.0 aoa.0 aoa.1))
+    then_read {A = Option ℕ × Left} IsPlain (number_where (has word 0x0100) vector.1) _ (λ aoa. rest_plain word vector.0 aoa.0 aoa.1))
 
 -- a SYN is read where the word has the flag
 abbrev Marked : ℕ → Body → Type 0
@@ -148,9 +146,9 @@ unfolding packet_at
 packet_flag d =
     let start : Left = record { at = 0; bytes = d } in
     then_big (Flagged d) 4 start _ (λ four. then_big (Flagged d) 2 (past 4 start) _ (λ six. then_big (Flagged d) 2 (past 2 (past 4 start)) _ (λ eight.
-      let word = big_number 2 (drop 2 (drop 4 d)) in
-      with_body d word (body_at word (past 2 (past 2 (past 4 start)))) _ (λ b. refl) (word_flag d)
-      (omega (arith, eight, length-drop 2 (drop 4 d), length-drop 4 d)) (body_marked word (past 2 (past 2 (past 4 start)))))))
+    let word = big_number 2 (drop 2 (drop 4 d)) in
+    with_body d word (body_at word (past 2 (past 2 (past 4 start)))) _ (λ b. refl) (word_flag d)
+    (omega (arith, eight, length-drop 2 (drop 4 d), length-drop 4 d)) (body_marked word (past 2 (past 2 (past 4 start)))))))
 
 -- so has what shows an opening
 pub opening_flag : (d : List ℕ) → is_opening d ≡ true → (has_syn d ≡ true) × (8 ≤ length d)

@@ -1,6 +1,6 @@
 -- The traces of the machines of two joined links: each keeps the law of its layout, and together they
 -- are joined by the same network.
-use Rattle.std.proofs.Common.{◌≡◌, ◌⊎◌, inl, inr, ℕ, zero, suc, ◌+◌, ◌<◌, ◌≤◌, Bool, true, false, List, [], ◌∷◌, ◌++◌, length, Option, Some, None, refl, sym, ap, ◌∙◌, subst, append-nil, arith}
+use Rattle.std.proofs.Common.{◌≡◌, ℕ, Bool, true, false, List, [], ◌∷◌, ◌++◌, Option, Some, None, refl, sym, ap, ◌∙◌, subst, append-nil}
 use Rattle.std.specs.Prelude.{nat_lt, max, if◌then◌else◌}
 use Rattle.mt_base.specs.declared.kinds.Role.{Role}
 use Rattle.mt_base.specs.declared.kinds.Role.TheVariants.{Server, Client}
@@ -11,7 +11,7 @@ use Rattle.carrier.specs.declared.state.Took.TheVariants.{Used, Ignored}
 use Rattle.carrier.specs.Entries.{Entry, Gave, In, Polled, Pulled, Owed, Posted, Next, moment, given, pulled}
 use Rattle.carrier.specs.Layout.{Layout}
 use Rattle.carrier.specs.Law.{Faithful}
-use Rattle.carrier.specs.Joined.{Step, At, half, SentAgo, Timely}
+use Rattle.carrier.specs.Joined.{Step, At, half}
 use Rattle.udp_open.specs.declared.settings.OpenSettings.{OpenSettings}
 use Rattle.udp_open.specs.declared.agreement.Agreement.{Agreement}
 use Rattle.udp_open.specs.Handshake.{agreed, owed}

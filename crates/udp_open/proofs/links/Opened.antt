@@ -1,23 +1,20 @@
 -- What a link sends is sent by its opening or by its machine; so two joined links agree.
-use Rattle.std.proofs.Common.{◌≡◌, ◌⊎◌, inl, inr, ℕ, ◌<◌, ◌≤◌, Bool, true, false, List, length, Option, Some, None, refl, sym, ap, ◌∙◌, subst}
+use Rattle.std.proofs.Common.{◌≡◌, ◌⊎◌, inl, inr, ℕ, Bool, true, false, List, Option, Some, None, refl, sym, ap, ◌∙◌}
 use Rattle.std.specs.Prelude.{nat_lt, max, if◌then◌else◌, IfSome}
 use Rattle.std.specs.Option.{option_map}
 use Rattle.mt_base.specs.declared.kinds.Role.{Role}
-use Rattle.mt_base.specs.declared.kinds.Role.TheVariants.{Server, Client}
-use Rattle.mt_base.specs.Ends.{other}
 use Rattle.mt_base.specs.Trace.{Trace, Start, ◌▷◌}
 use Rattle.carrier.specs.Entries.{Entry, Gave, In, Polled, Pulled, Owed, Posted, Next, moment}
-use Rattle.carrier.specs.Layout.{Datagram}
 use Rattle.carrier.specs.Due.{due, meant}
 use Rattle.carrier.specs.Sending.{is_closed}
-use Rattle.carrier.specs.Joined.{Step, At, half, SentAgo, Timely}
+use Rattle.carrier.specs.Joined.{Step, At, half, Timely}
 use Rattle.udp1_core.specs.FirstLayout.{packet_with}
 use Rattle.udp1_packets.specs.Layout.{spelled}
 use Rattle.udp_open.specs.declared.settings.OpenSettings.{OpenSettings}
 use Rattle.udp_open.specs.declared.agreement.Agreement.{Agreement}
 use Rattle.udp_open.specs.Handshake.{agreed, owed, timer, opening_due}
 use Rattle.udp_open.specs.Agreeing.{is_opening, SendsDue, WasSent, Meet, AgreesWith}
-use Rattle.udp_open.specs.LinkTrace.{has_syn, layout_by, machine, link_due, due_by, due_open, LinkFaithful}
+use Rattle.udp_open.specs.LinkTrace.{has_syn, layout_by, machine, link_due, due_by, LinkFaithful}
 use Rattle.udp_open.specs.TwoLinks.{LinkNet, AgreesIn}
 use Rattle.udp_open.proofs.Agreeing.{agrees}
 use Rattle.udp_open.proofs.links.Flag.{opening_flag, machine_plain, sent_has}
