@@ -4,3 +4,4 @@ pub mod Opened
 pub mod Machines
 pub mod Network
 pub mod Whole
+pub mod OneLink

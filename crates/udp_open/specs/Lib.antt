@@ -3,3 +3,4 @@ pub mod OpeningView
 pub mod LinkTrace
 pub mod Agreeing
 pub mod TwoLinks
+pub mod OneLink

@@ -1,10 +1,14 @@
 //! The law of two joined links, from their opening on.
 
-ghost use Rattle.std.specs.Prelude.{ℕ};
+ghost use Rattle.std.specs.Prelude.{◌≡◌, ℕ, Some};
 ghost use Rattle.mt_base.specs.declared.kinds.Role.{Role};
+ghost use Rattle.mt_base.specs.declared.kinds.Role.TheVariants.{Server, Client};
 ghost use Rattle.mt_base.specs.Trace.{Trace};
-ghost use Rattle.carrier.specs.Joined.{Step};
+ghost use Rattle.carrier.specs.Entries.{given, pulled};
+ghost use Rattle.carrier.specs.Joined.{Step, half};
 ghost use Rattle.udp_open.specs.declared.settings.OpenSettings.{OpenSettings};
+ghost use Rattle.udp_open.specs.Handshake.{agreed};
+ghost use Rattle.udp_open.specs.OneLink.{one_agreement, one_link, one_settings};
 ghost use Rattle.udp_open.specs.TwoLinks.{AgreesIn, LinkNet, LinkPassed, LinkPulled, MachinesRead, PartsArrive};
 
 use udp1_core::first_links_join;
@@ -29,3 +33,11 @@ pub fn two_links()
 {
     first_links_join();
 }
+
+/// A small link meets what [`two_links`] asks: both ends agree, and a byte arrives that the server
+/// was given before it had opened.
+pub fn a_link_opens()
+    ensures met { LinkNet 1024 one_settings one_link }
+    ensures agree { (s : Role) → agreed (one_settings s) (half s one_link) ≡ Some (one_agreement s) }
+    ensures arrives { pulled (half Client one_link) ≡ given (half Server one_link) }
+{}

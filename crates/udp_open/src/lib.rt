@@ -5,7 +5,9 @@
 //! the calls of a link and what they answer, `mt_windows` with the limits of a link, and the kit's
 //! `sha2`. What the crates above use is that [`Opening`] stands for a trace of its calls, in which
 //! each datagram is answered and each poll sends as the handshake says; that [`Opening::end`] is what
-//! was agreed on in that trace; and that two ends which meet agree ([`both_agree`]).
+//! was agreed on in that trace; that two ends which meet agree ([`both_agree`]); and that on two
+//! joined links, from their opening on, what arrives at one end is what the other was given
+//! ([`two_links`]).
 #![tactic(auto)]
 
 mod agreement;
@@ -18,7 +20,7 @@ mod sending;
 mod settings;
 mod timer;
 
-pub use joined::two_links;
+pub use joined::{a_link_opens, two_links};
 pub use laws::{agreements_stay, both_agree, closed_for_good, openings_are_due};
 pub use opening::{OpenEnd, Opening};
 pub use settings::{OpenSettings, hash_cookie};

@@ -122,6 +122,8 @@ fn laws_hold() {
     openings_are_due();
     agreements_stay();
     closed_for_good();
+    two_links();
+    a_link_opens();
 }
 
 #[test]
