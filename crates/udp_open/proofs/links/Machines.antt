@@ -72,7 +72,8 @@ given_same s (t ▷ e) a h = by_agreement (agreed s t) refl (λ b is. given_same
     begun (Next bytes) before after = refl
 
     copied : (m : Trace Entry) (role : Role) (took : Took) → given (with_entries m (copies role took)) ≡ given m
-    copied m Server took = refl
+    copied m Server Used = refl
+    copied m Server (Ignored why) = refl
     copied m Client Used = refl
     copied m Client (Ignored why) = refl
 
@@ -128,7 +129,8 @@ pulled_same s (t ▷ e) law = by_agreement (agreed s t) refl (pulled_same s t la
     unpulled (Next bytes) answers before = refl
 
     copied : (m : Trace Entry) (role : Role) (took : Took) → pulled (with_entries m (copies role took)) ≡ pulled m
-    copied m Server took = refl
+    copied m Server Used = refl
+    copied m Server (Ignored why) = refl
     copied m Client Used = refl
     copied m Client (Ignored why) = refl
 

@@ -56,7 +56,8 @@ module _ (settings : Role → OpenSettings) (s : Role) (d : List ℕ) (plain : h
   begun_by v side o (Some a) early k h = begun v side o.role early k h
 
   copied : (v : Trace Step) (side role : Role) (took : Took) (k : ℕ) → SentWithin s v k d → SentWithin s (with_steps v side (copies role took)) k d
-  copied v side Server took k h = h
+  copied v side Server Used k h = h
+  copied v side Server (Ignored why) k h = h
   copied v side Client Used k h = record { ago = h.ago; within = h.within; sent = h.sent }
   copied v side Client (Ignored why) k h = h
 
@@ -160,7 +161,8 @@ module _ (late : ℕ) where
   begun_timely v side o (Some a) early h = begins_timely v side o.role early h
 
   copied_timely : (v : Trace Step) (side role : Role) (took : Took) → Timely late v → Timely late (with_steps v side (copies role took))
-  copied_timely v side Server took h = h
+  copied_timely v side Server Used h = h
+  copied_timely v side Server (Ignored why) h = h
   copied_timely v side Client Used h = h
   copied_timely v side Client (Ignored why) h = h
 
