@@ -12,4 +12,4 @@ pub mod Firsts
 pub mod Steps
 pub mod Masks
 pub mod Spaces
-pub mod Tests
+pub mod Deciding

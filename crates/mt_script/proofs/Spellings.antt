@@ -17,7 +17,7 @@ use Rattle.hex.specs.Hex.{decode_of, encode_lower}
 use Rattle.hex.proofs.HexLemmas.{decode_of-encode_lower, decode_of-ok}
 use Rattle.mt_base.specs.declared.kinds.Role.{Role}
 use Rattle.mt_base.specs.declared.kinds.Role.TheVariants.{Server, Client}
-use Rattle.mt_base.proofs.Tests.{holds_or_not}
+use Rattle.mt_base.proofs.Deciding.{holds_or_not}
 use Rattle.mt_script.specs.declared.event.Event.{Event}
 use Rattle.mt_script.specs.declared.event.Event.TheVariants.{Open, Send, Main}
 use Rattle.mt_script.specs.Lines.{Lacks}

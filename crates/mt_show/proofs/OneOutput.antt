@@ -8,7 +8,7 @@ use Rattle.std.proofs.lemmas.Slice.Eq.{bytes_eq-Decides}
 use Rattle.carrier.specs.declared.first_layout.Refusal1.{Refusal1}
 use Rattle.carrier.specs.declared.second_layout.Refusal2.{Refusal2}
 use Rattle.mt_base.proofs.Lists.{heads}
-use Rattle.mt_base.proofs.Tests.{holds_or_not}
+use Rattle.mt_base.proofs.Deciding.{holds_or_not}
 use Rattle.mt_script.specs.Lines.{lines_of, ended}
 use Rattle.mt_script.specs.Spelling.{IsBytes, hex_text}
 use Rattle.mt_script.specs.Meaning.{IsShort, line_limit}
