@@ -1,0 +1,22 @@
+//! The opening of a link over UDP (MS-RDPEUDP section 3.1.5.1): how its two ends agree on a version
+//! and tell each other their initial numbers. It has no socket and no clock.
+//!
+//! Below it stand `udp1_packets`, which reads and writes the datagrams of an opening, `carrier` with
+//! the calls of a link and what they answer, `mt_windows` with the limits of a link, and the kit's
+//! `sha2`. What the crates above use is that [`Opening`] stands for a trace of its calls, in which
+//! each datagram is answered and each poll sends as the handshake says, and that [`Opening::end`] is
+//! what the ends agreed on in that trace.
+#![tactic(auto)]
+
+mod agreement;
+mod hearing;
+mod opening;
+mod sending;
+mod settings;
+mod timer;
+
+pub use opening::{OpenEnd, Opening};
+pub use settings::{OpenSettings, hash_cookie};
+
+#[cfg(test)]
+mod tests;

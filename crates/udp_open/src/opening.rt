@@ -1,0 +1,257 @@
+//! The opening of a link.
+
+ghost use Rattle.std.specs.Prelude.{ℕ, ◌≡◌, ◌-◌, ◌<◌, ◌^◌, List, true, not, nat_lt, Option, if◌then◌else◌, Some, None, Ok, take, option_map, IfSome};
+ghost use Rattle.mt_base.specs.declared.kinds.Role.TheVariants.{Client as IsClient};
+ghost use Rattle.mt_base.specs.Trace.{Trace, Start, ◌▷◌};
+ghost use Rattle.carrier.specs.declared.state.Took.{Took};
+ghost use Rattle.carrier.specs.Entries.{Entry, In, Polled};
+ghost use Rattle.carrier.specs.Receiving.{has_effect};
+ghost use Rattle.udp1_packets.specs.Layout.{spelled};
+ghost use Rattle.udp_open.specs.Handshake.{agreed, expiries, row, is_closed, asked, is_time, started, owed_by, syn_ack, opening_answered, opening_due, IsNextDue};
+ghost use Rattle.udp_open.specs.OpeningView.{IsOffered, IsTimer, Follows, StandsOpen, SendsFirst, end_of, after_asking, next_syn};
+
+use crate::agreement::Agreement;
+use crate::hearing::hear;
+use crate::sending::{send_syn, send_syn_ack};
+use crate::settings::OpenSettings;
+use crate::timer::Timer;
+use carrier::{Reason, Took};
+use mt_base::Role;
+use mt_windows::DATAGRAM;
+use std::marker::Model;
+
+/// What an opening came to.
+#[derive(Clone, Copy, Debug, PartialEq, Eq)]
+pub enum OpenEnd {
+    /// The ends have not agreed yet.
+    Waiting,
+    /// They agreed on this version, and the other end has this initial number.
+    Agreed { version: u16, peer_initial: u32 },
+}
+
+/// The opening of a link at one end (MS-RDPEUDP section 3.1.5.1): datagrams come in by `input` and
+/// go out by `poll`. Moments are in milliseconds, and one below the last one given counts as the
+/// last one. No call takes memory.
+#[derive(Drop)]
+pub struct Opening {
+    settings: OpenSettings,
+    moment: u64,
+    agreement: Option<Agreement>,
+    owed: u64,
+    timer: Option<Timer>,
+}
+
+impl Model for Opening {
+    ghost use Rattle.udp_open.specs.OpeningView.{Handshake, IsSound};
+
+    ghost Value = { Handshake };
+
+    ghost view = { λ o. record { settings = o.settings; moment = o.moment; agreement = o.agreement; owed = o.owed; timer = o.timer } };
+
+    ghost invariant = { λ o. IsSound (record { settings = o.settings; moment = o.moment; agreement = o.agreement; owed = o.owed; timer = o.timer }) };
+}
+
+impl Opening {
+    /// An opening by which nothing was sent or heard.
+    pub fn new(settings: &OpenSettings) -> Opening
+        requires { IsOffered settings.now.version }
+        ensures stands { StandsOpen result Start }
+        ensures settings { result.settings ≡ settings.now }
+    {
+        Opening {
+            settings: *settings,
+            moment: 0,
+            agreement: None,
+            owed: 0,
+            timer: None,
+        }
+    }
+
+    /// Takes a datagram that came at this moment, which is below 2^62.
+    pub fn input(&mut self, now: u64, datagram: &[u8]) -> Took
+        requires moment { now < 2 ^ 62 }
+        ensures trace { (t : Trace Entry) → StandsOpen self.old t →
+            StandsOpen self.new (t ▷ In now datagram.now result) }
+        ensures answer { (t : Trace Entry) → Follows self.old t →
+            result ≡ opening_answered self.old.settings t datagram.now }
+        // LinkClosed is the answer exactly where the link is closed.
+        ensures closed { (t : Trace Entry) → Follows self.old t →
+            has_effect result ≡ not (is_closed self.old.settings t) }
+        // A link of this opening may answer otherwise.
+        ensures follows { (t : Trace Entry) (took : Took) → Follows self.old t →
+            has_effect took ≡ not (is_closed self.old.settings t) →
+            Follows self.new (t ▷ In now datagram.now took) }
+        ensures settings { self.new.settings ≡ self.old.settings }
+    {
+        self.moment = self.moment.max(now);
+        if self.is_closed() {
+            return Took::Ignored(Reason::LinkClosed);
+        }
+        match hear(&self.settings, self.agreement, datagram) {
+            Ok(agreement) => {
+                self.agree(agreement);
+                Took::Used
+            }
+            Err(reason) => Took::Ignored(reason),
+        }
+    }
+
+    /// Writes the datagram that is due at this moment, which is below 2^62, to `out`, and gives its
+    /// length, which is 1,232; `None` where nothing is due.
+    pub fn poll(&mut self, now: u64, out: &mut [u8; 1232]) -> Option<usize>
+        requires moment { now < 2 ^ 62 }
+        ensures whole { IfSome result (λ n. n ≡ 1232) }
+        ensures trace { (t : Trace Entry) → StandsOpen self.old t →
+            StandsOpen self.new (t ▷ Polled now (option_map (λ n. take n out.new) result)) }
+        ensures due { (t : Trace Entry) → Follows self.old t →
+            option_map (λ n. take n out.new) result ≡ opening_due self.old.settings t now }
+        // A link of this opening may send something where this sends nothing.
+        ensures follows { (t : Trace Entry) (out_after : Option (List ℕ)) → Follows self.old t →
+            SendsFirst (option_map (λ n. take n out.new) result) out_after →
+            Follows self.new (t ▷ Polled now out_after) }
+        ensures settings { self.new.settings ≡ self.old.settings }
+    {
+        self.moment = self.moment.max(now);
+        match (self.settings.role, self.agreement) {
+            (Role::Client, None) => self.ask(out),
+            (Role::Server, Some(agreement)) => self.answer(agreement, out),
+            _ => None,
+        }
+    }
+
+    /// Keeps what the ends agreed on. A server owes one SYN+ACK more.
+    fn agree(&mut self, agreement: Agreement)
+        requires { IsOffered agreement.version }
+        ensures { self.new ≡ record self.old { agreement = Some agreement; timer = None; owed = owed_by self.old.settings.role self.old.owed (Ok agreement) } }
+    {
+        self.agreement = Some(agreement);
+        self.timer = None;
+        match self.settings.role {
+            Role::Server => self.owed = self.owed.saturating_add(1),
+            Role::Client => (),
+        }
+    }
+
+    /// Writes the SYN of a client where it is time to send it.
+    fn ask(&mut self, out: &mut [u8; 1232]) -> Option<usize>
+        requires { self.old.settings.role ≡ IsClient }
+        ensures whole { IfSome result (λ n. n ≡ 1232) }
+        ensures bytes { option_map (λ n. take n out.new) result ≡
+            option_map spelled (asked self.old.settings self.old.timer self.old.moment) }
+        ensures value { self.new ≡ after_asking self.old }
+    {
+        if !self.is_time() {
+            return None;
+        }
+        let timer = self.started();
+        self.timer = Some(timer);
+        if timer.is_over() {
+            return None;
+        }
+        send_syn(&self.settings, out);
+        Some(DATAGRAM)
+    }
+
+    /// Whether it is time for a SYN: for the first time, or at an expiry.
+    fn is_time(&self) -> bool
+        ensures { result ≡ is_time self.now.timer self.now.moment }
+    {
+        match self.timer {
+            Some(timer) => !timer.is_over() && timer.expiry() <= self.moment,
+            None => true,
+        }
+    }
+
+    /// The timer of a SYN that is sent at the last moment.
+    fn started(&self) -> Timer
+        requires { is_time self.now.timer self.now.moment ≡ true }
+        ensures value { result ≡ started self.now.timer self.now.moment }
+        ensures sound { IsTimer result }
+    {
+        Timer {
+            start: self.moment,
+            expiries: match self.timer {
+                Some(timer) => timer.expiries + 1,
+                None => 0,
+            },
+        }
+    }
+
+    /// Writes a SYN+ACK of a server where one is owed.
+    fn answer(&mut self, agreement: Agreement, out: &mut [u8; 1232]) -> Option<usize>
+        requires { IsOffered agreement.version }
+        ensures whole { IfSome result (λ n. n ≡ 1232) }
+        ensures bytes { option_map (λ n. take n out.new) result ≡
+            (if nat_lt 0 self.old.owed then Some (spelled (syn_ack self.old.settings agreement))
+            else None) }
+        ensures value { self.new ≡ record self.old { owed = self.old.owed - 1 } }
+    {
+        if self.owed == 0 {
+            return None;
+        }
+        self.owed -= 1;
+        send_syn_ack(&self.settings, agreement, out);
+        Some(DATAGRAM)
+    }
+
+    /// What the ends agreed on.
+    pub fn end(&self) -> OpenEnd
+        ensures { (t : Trace Entry) → Follows self.now t →
+            result ≡ end_of (agreed self.now.settings t) }
+    {
+        match self.agreement {
+            Some(agreement) => OpenEnd::Agreed {
+                version: agreement.version,
+                peer_initial: agreement.peer_initial,
+            },
+            None => OpenEnd::Waiting,
+        }
+    }
+
+    /// How many expiries came in a row while the SYN was not answered. At 17 the link is closed for
+    /// good.
+    pub fn expiries(&self) -> u32
+        ensures trace { (t : Trace Entry) → Follows self.now t →
+            result ≡ expiries self.now.settings t }
+        ensures value { result ≡ row self.now.timer }
+    {
+        match self.timer {
+            Some(timer) => timer.expiries,
+            None => 0,
+        }
+    }
+
+    /// Whether the link is closed.
+    fn is_closed(&self) -> bool
+        ensures { result ≡ nat_lt 16 (row self.now.timer) }
+    {
+        match self.timer {
+            Some(timer) => timer.is_over(),
+            None => false,
+        }
+    }
+
+    /// The moment at which a client whose SYN is not answered sends it or closes.
+    fn next_syn(&self) -> Option<u64>
+        ensures { result ≡ next_syn self.now.timer self.now.moment }
+    {
+        match self.timer {
+            Some(timer) if timer.is_over() => None,
+            Some(timer) => Some(timer.expiry().max(self.moment)),
+            None => Some(self.moment),
+        }
+    }
+
+    /// The least moment, from the last one on, at which `poll` would give a datagram or close the
+    /// link if no other call came; `None` where there is none.
+    pub fn next_due(&self) -> Option<u64>
+        ensures { (t : Trace Entry) → Follows self.now t →
+            IsNextDue self.now.settings t result }
+    {
+        match (self.settings.role, self.agreement) {
+            (Role::Client, None) => self.next_syn(),
+            (Role::Server, Some(_)) if self.owed > 0 => Some(self.moment),
+            _ => None,
+        }
+    }
+}

@@ -1,0 +1,113 @@
+//! The datagrams of an opening that an end sends.
+
+ghost use Rattle.std.specs.Prelude.{◌≡◌, IfSome};
+ghost use Rattle.udp1_packets.specs.Layout.{spelled};
+ghost use Rattle.udp1_packets.specs.Views.{syn_of};
+ghost use Rattle.udp_open.specs.Handshake.{marks_of, opening_syn, opening, syn, syn_ack};
+ghost use Rattle.udp_open.specs.OpeningView.{IsOffered};
+
+use crate::agreement::Agreement;
+use crate::settings::OpenSettings;
+use mt_base::Kind;
+use udp1_packets::{Body1, Extension, Packet1, Syn1, write1};
+
+/// The window of each end, in packets.
+const WINDOW: u16 = 64;
+
+/// The MTUs of each end.
+const MTU: u16 = 1232;
+
+/// What the SYN of a client has in place of an acknowledgement.
+const NO_ACK: u32 = 0xffff_ffff;
+
+/// The flag SYNLOSSY (MS-RDPEUDP section 2.2.2.1).
+const SYNLOSSY: u16 = 0x0200;
+
+/// The flag of an extension that says that it names a version (section 2.2.2.9).
+const NAMES_VERSION: u16 = 0x0001;
+
+/// The first version, which an opening need not name.
+const VERSION_1: u16 = 0x0001;
+
+/// The zeros that fill an opening up to 1,232 bytes, with an extension and without one.
+const BEHIND_EXTENSION: usize = 1212;
+
+const BEHIND_MTUS: usize = 1216;
+
+fn marks_of(kind: Kind) -> u16
+    ensures { result ≡ marks_of kind }
+{
+    match kind {
+        Kind::Reliable => 0,
+        Kind::Lossy => SYNLOSSY,
+    }
+}
+
+/// An opening of this end that names a version, or none.
+fn opening_of(settings: &OpenSettings, answer: bool, version: Option<u16>) -> Syn1<'static>
+    ensures { syn_of result ≡ opening_syn settings.now answer version }
+{
+    let extension = match version {
+        Some(version) => Some(Extension {
+            flags: NAMES_VERSION,
+            version,
+            hash: None,
+        }),
+        None => None,
+    };
+    Syn1 {
+        answer,
+        initial: settings.initial,
+        up: MTU,
+        down: MTU,
+        correlation: None,
+        extension,
+        padding: match version {
+            Some(_) => BEHIND_EXTENSION,
+            None => BEHIND_MTUS,
+        },
+    }
+}
+
+/// Writes a SYN or a SYN+ACK of this end that names a version, or none. It fills the datagram.
+fn send(
+    settings: &OpenSettings,
+    answer: bool,
+    ack: u32,
+    version: Option<u16>,
+    out: &mut [u8; 1232],
+)
+    requires { IfSome version IsOffered }
+    ensures { out.new ≡ spelled (opening settings.now answer ack version) }
+{
+    let packet = Packet1 {
+        ack,
+        window: WINDOW,
+        marks: marks_of(settings.kind),
+        body: Body1::Syn(opening_of(settings, answer, version)),
+    };
+    if write1(&packet, out).is_err() {
+        unreachable!();
+    }
+}
+
+/// Writes the SYN of a client.
+pub fn send_syn(settings: &OpenSettings, out: &mut [u8; 1232])
+    requires { IsOffered settings.now.version }
+    ensures { out.new ≡ spelled (syn settings.now) }
+{
+    let version = match settings.version {
+        VERSION_1 => None,
+        version => Some(version),
+    };
+    send(settings, false, NO_ACK, version, out);
+}
+
+/// Writes the SYN+ACK of a server.
+pub fn send_syn_ack(settings: &OpenSettings, agreement: Agreement, out: &mut [u8; 1232])
+    requires { IsOffered agreement.version }
+    ensures { out.new ≡ spelled (syn_ack settings.now agreement) }
+{
+    let version = if agreement.extended { Some(agreement.version) } else { None };
+    send(settings, true, agreement.peer_initial, version, out);
+}
