@@ -9,7 +9,7 @@ use Rattle.byteorder.specs.Numbers.{little_number-reads_back}
 use Rattle.mt_base.specs.Trace.{Trace, Start, ◌▷◌}
 use Rattle.mt_base.specs.Writing.{joined}
 use Rattle.mt_base.proofs.Fill.{joined-append}
-use Rattle.mt_windows.proofs.Counts.{joined_push}
+use Rattle.mt_base.proofs.Fill.{joined-push}
 use Rattle.mt_windows.specs.declared.limits.TheConstants.{DATAGRAM, NUMBERS, PART, QUEUE}
 use Rattle.carrier.specs.declared.first_layout.Refusal1.TheVariants as refusal
 use Rattle.carrier.specs.declared.state.Reason.{Reason}
@@ -149,7 +149,7 @@ all_given Start h = refl
 all_given (t ▷ Gave bytes) h = sym (append_assoc (joined (cut t)) (waiting t) bytes) ∙ ap (λ xs. xs ++ bytes) (all_given t h.2)
 all_given (t ▷ Polled now (Some out)) h =
     ap (λ xs. joined (cut t ++ xs ∷ []) ++ drop PART (waiting t)) (ap bytes_of (due_is t out h.0).0)
-    ∙ ap (λ xs. xs ++ drop PART (waiting t)) (joined_push (cut t) (take PART (waiting t)))
+    ∙ ap (λ xs. xs ++ drop PART (waiting t)) (joined-push (cut t) (take PART (waiting t)))
     ∙ append_assoc (joined (cut t)) (take PART (waiting t)) (drop PART (waiting t))
     ∙ ap (λ xs. joined (cut t) ++ xs) (take-append-drop PART (waiting t))
     ∙ all_given t h.1
@@ -181,7 +181,7 @@ first_parts a (t ▷ In now datagram Used) f h c =
     let same : d.number ≡ next_number t = ok_same d.number (next_number t) (sym d.shown ∙ read) in
     let part = subst (λ m. take (m + 1) (cut a) ≡ take m (cut a) ++ bytes_of datagram ∷ []) same d.part in
     ap (λ xs. xs ++ bytes_of datagram) (first_parts a t f h.1 c.1)
-    ∙ sym (joined_push (take (next_number t) (cut a)) (bytes_of datagram))
+    ∙ sym (joined-push (take (next_number t) (cut a)) (bytes_of datagram))
     ∙ ap joined (sym part)
 first_parts a (t ▷ In now datagram (Ignored why)) f h c = first_parts a t f h.1 c.1
 first_parts a (t ▷ Polled now out) f h c = first_parts a t f h.1 c

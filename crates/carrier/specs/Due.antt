@@ -28,8 +28,8 @@ telling_with layout t above load tells = record {
 abbrev pub with_part : Layout → Trace Entry → Option ℕ → Carried → Datagram
 with_part layout t above load =
     telling_with layout t above (Some load)
-        (nat_lt 0 (length (owed layout t))
-        && nat_le (length (layout.spell (telling_with layout t above (Some load) true))) layout.bounds.with_telling)
+    (nat_lt 0 (length (owed layout t))
+    && nat_le (length (layout.spell (telling_with layout t above (Some load) true))) layout.bounds.with_telling)
 
 -- the floor that a part carries that is sent again
 abbrev pub own_floor : Layout → Trace Act → ℕ

@@ -42,7 +42,10 @@ IsCarried layout c = (length c.bytes ≤ layout.bounds.windows.part) × All (λ 
 -- a datagram that tells what was received above a floor
 abbrev pub datagram_of : Layout → Received → ℕ → Bool → Option ℕ → Option Carried → Datagram
 datagram_of layout r above tells floor load = record {
-  telling = layout.told r above; tells = tells; floor = floor; load = load;
+  telling = layout.told r above;
+  tells = tells;
+  floor = floor;
+  load = load;
 }
 
 pub record IsLayout (layout : Layout) : Type 0 where

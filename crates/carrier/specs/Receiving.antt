@@ -155,8 +155,8 @@ abbrev pub floor : Layout → Trace Entry → ℕ
 floor layout Start = 0
 floor layout (t ▷ In now datagram took) =
     floor_shown layout (received layout t) (length (pulled t))
-        (receives layout (received layout t) (length (pulled t)) (effect layout took datagram))
-        (floor layout t) (effect layout took datagram)
+    (receives layout (received layout t) (length (pulled t)) (effect layout took datagram))
+    (floor layout t) (effect layout took datagram)
 floor layout (t ▷ e) = floor layout t
 
 -- the window last told by the other end

@@ -1,5 +1,5 @@
 -- Lemmas on what is sent, and when.
-use Rattle.std.proofs.Common.{◌≡◌, ℕ, ◌+◌, ◌≤◌, Bool, true, false, not, ltb, leb, cond, ◌&&◌, ◌||◌, Option, Some, None, is_some, option_map, unwrap_or, refl, sym, ap, ◌∙◌, arith}
+use Rattle.std.proofs.Common.{◌≡◌, ℕ, ◌+◌, ◌≤◌, Bool, true, false, not, ltb, leb, cond, ◌&&◌, ◌||◌, Option, Some, None, is_some, option_map, unwrap_or, refl, ap, arith}
 use Rattle.std.proofs.lemmas.Bool.Decides.{nat_tests}
 use Rattle.udp1_core.specs.declared.choice.Choice.{Choice}
 use Rattle.udp1_core.specs.declared.choice.Choice.TheVariants.{Again}

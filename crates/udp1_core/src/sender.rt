@@ -1,13 +1,12 @@
 //! The sending half of the machine: the window of parts, what the other end told, and the timer.
 
-ghost use Rattle.std.specs.Prelude.{◌≡◌, ◌+◌, ◌-◌, ◌*◌, ◌<◌, ◌≤◌, ◌^◌, ◌∷◌, ◌&&◌, ◌||◌, ℕ, Bool, List, Option, Some, None, true, All, length, take, drop, min, nat_le, is_some, if◌then◌else◌, IfOk, IfSome, OnOk, OnErr, Ok, Err, nat_lt, option_copied, option_map};
+ghost use Rattle.std.specs.Prelude.{◌≡◌, ◌+◌, ◌-◌, ◌<◌, ◌≤◌, ◌^◌, ◌&&◌, ◌||◌, ℕ, Option, Some, None, true, All, length, take, min, nat_le, is_some, if◌then◌else◌, IfOk, IfSome, OnOk, OnErr, Ok, Err, nat_lt, option_copied};
 ghost use Rattle.mt_base.specs.Trace.{Trace, Start, ◌▷◌};
-ghost use Rattle.mt_base.specs.Nearness.{nearest};
 ghost use Rattle.ack_vector.specs.Elements.{IsGood, flags_of};
 ghost use Rattle.mt_windows.specs.Sending.Act.{Gave, Cut, Resent};
 ghost use Rattle.mt_windows.specs.Sending.{Act, cuts, transmissions, next_piece, piece, lowest, lowest_or_next, settles_part, tells_part};
 ghost use Rattle.mt_windows.specs.SendingView.{Sends, limits, queued_of, reach_of, next_transmission, is_unsettled, may_cut_of};
-ghost use Rattle.carrier.specs.Layout.{Telling, Upto, bounded, tells, read_near};
+ghost use Rattle.carrier.specs.Layout.{Telling, Upto, tells, read_near};
 ghost use Rattle.carrier.specs.Sending.{Timer, hears_telling, expiry, is_over, is_waiting, expires, settles, tell_all, told_reference, timer_told};
 ghost use Rattle.carrier.specs.Due.{may_send};
 ghost use Rattle.udp1_core.specs.declared.choice.Choice.TheVariants.{Silent as IsSilent, Again as IsAgain, Fresh as IsFresh};
@@ -188,9 +187,11 @@ impl Sender {
     fn settle_part(&mut self, named: u64, elements: &[u8], part: u64) -> bool
         requires { All IsGood elements.now }
         ensures settled { (first : ℕ) (acts : Trace Act) → Sends self.old.outbox first acts →
-            result ≡ tells (Upto named (flags_of elements.now)) part && settles_part limits first acts part }
+            let is_told = tells (Upto named (flags_of elements.now)) part in
+            result ≡ is_told && settles_part limits first acts part }
         ensures sends { (first : ℕ) (acts : Trace Act) → Sends self.old.outbox first acts →
-            Sends self.new.outbox first (if tells (Upto named (flags_of elements.now)) part then tells_part first part acts else acts) }
+            let is_told = tells (Upto named (flags_of elements.now)) part in
+            Sends self.new.outbox first (if is_told then tells_part first part acts else acts) }
         ensures own { self.new.own ≡ self.old.own }
         ensures wait { self.new.wait ≡ self.old.wait }
         ensures told { self.new.told ≡ self.old.told }

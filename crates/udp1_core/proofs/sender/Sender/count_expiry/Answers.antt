@@ -1,6 +1,6 @@
 use Rattle.std.proofs.Common.{◌≡◌, ◌+◌, true, false, cond, sym, ap, ◌∙◌, subst}
 use Rattle.carrier.specs.Sending.{Timer, expires}
-use Rattle.udp1_core.specs.SenderView.{Sender, Speaks, layout_out}
+use Rattle.udp1_core.specs.SenderView.{Speaks, layout_out}
 use Rattle.udp1_core.proofs.Sendings.{and_both, still_open}
 use Rattle.udp1_core.proofs.sender.Sender.count_expiry.Goals as goal
 

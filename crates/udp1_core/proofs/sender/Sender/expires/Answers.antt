@@ -1,6 +1,4 @@
-use Rattle.std.proofs.Common.{◌≡◌, leb, is_some, true, sym, ap, ◌∙◌, ◌&&◌}
-use Rattle.mt_windows.specs.Sending.{lowest}
-use Rattle.mt_windows.specs.SendingView.{limits}
+use Rattle.std.proofs.Common.{leb, sym, ap, ◌∙◌}
 use Rattle.carrier.specs.Sending.{expiry}
 use Rattle.udp1_core.specs.SenderView.{layout_out}
 use Rattle.udp1_core.proofs.Sendings.{and_both}

@@ -1,4 +1,4 @@
-use Rattle.std.proofs.Common.{◌≡◌, true, false, cond, option_copied, sym, ap, ◌∙◌, subst}
+use Rattle.std.proofs.Common.{◌≡◌, cond, option_copied, sym, ap, ◌∙◌, subst}
 use Rattle.ack_vector.specs.Elements.{flags_of}
 use Rattle.carrier.specs.Layout.{Layout, Upto, tells}
 use Rattle.carrier.specs.Sending.{Timer, hears_telling, hears_named, tell_all, timer_told}

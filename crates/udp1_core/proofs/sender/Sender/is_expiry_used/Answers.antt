@@ -1,4 +1,4 @@
-use Rattle.std.proofs.Common.{leb, ◌||◌, sym, ap, ◌∙◌}
+use Rattle.std.proofs.Common.{leb, ◌||◌, ap, ◌∙◌}
 use Rattle.udp1_core.specs.SenderView.{Sender}
 use Rattle.udp1_core.proofs.sender.Sender.is_expiry_used.Goals as goal
 
