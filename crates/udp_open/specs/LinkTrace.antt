@@ -1,0 +1,133 @@
+-- The trace of a link that opens and then goes on as a machine of the first layout: which of its
+-- calls reach the machine, what is answered and sent, and the law of its traces.
+use Rattle.std.specs.Prelude.{◌≡◌, ℕ, ◌+◌, ◌%◌, ◌≤◌, ◌==◌, Bool, true, false, not, ◌&&◌, nat_lt, max, List, [], ◌∷◌, ◌++◌, length, All, ◌<◌, get_or, if◌then◌else◌, Option, Some, None, is_some}
+use Rattle.mt_base.specs.declared.kinds.Role.{Role}
+use Rattle.mt_base.specs.declared.kinds.Role.TheVariants.{Server, Client}
+use Rattle.mt_base.specs.Trace.{Trace, Start, ◌▷◌}
+use Rattle.mt_windows.specs.declared.limits.TheConstants.{QUEUE}
+use Rattle.carrier.specs.declared.state.Took.{Took}
+use Rattle.carrier.specs.declared.state.Took.TheVariants.{Used, Ignored}
+use Rattle.carrier.specs.declared.state.Reason.TheVariants as reason
+use Rattle.carrier.specs.Entries.{Entry, Gave, In, Polled, Pulled, Owed, Posted, Next, moment, given}
+use Rattle.carrier.specs.Layout.{Layout}
+use Rattle.carrier.specs.Receiving.{has_effect}
+use Rattle.carrier.specs.Sending.{is_closed}
+use Rattle.carrier.specs.Due.{due}
+use Rattle.carrier.specs.Law.{IsBytes, answered, Faithful}
+use Rattle.udp1_core.specs.MachineView.{link_layout}
+use Rattle.udp_open.specs.declared.settings.OpenSettings.{OpenSettings}
+use Rattle.udp_open.specs.declared.agreement.Agreement.{Agreement}
+use Rattle.udp_open.specs.Handshake.{agreed, opening_answered, opening_due, owed, is_closed as is_opening_closed}
+
+-- ---- the machine of a link
+
+-- the flag SYN (MS-RDPEUDP section 2.2.2.1) is the lowest bit of a datagram's eighth byte
+abbrev pub has_syn : List ℕ → Bool
+has_syn datagram = get_or datagram 7 0 % 2 == 1
+
+-- the layout of the machine, where this was agreed on
+abbrev pub layout_by : OpenSettings → Agreement → Layout
+layout_by settings a = link_layout settings.initial a.peer_initial a.version
+
+-- What the taking of an opening tells a machine: the bytes that were given while it opened, and at a
+-- client that two tellings are owed.
+abbrev pub begins : Role → List ℕ → List Entry
+begins Server early = Gave early ∷ []
+begins Client early = Gave early ∷ Owed 2 ∷ []
+
+abbrev pub begins_by : OpenSettings → Option Agreement → List ℕ → List Entry
+begins_by settings None early = []
+begins_by settings (Some a) early = begins settings.role early
+
+-- what a copy of the opening that was taken tells it: at a client that two tellings are owed
+abbrev pub copies : Role → Took → List Entry
+copies Server took = []
+copies Client Used = Owed 2 ∷ []
+copies Client (Ignored why) = []
+
+-- What a call of an open link tells its machine: all but openings, at the link's own moments.
+abbrev pub reaches : OpenSettings → Trace Entry → Entry → List Entry
+reaches settings t (Gave bytes) = Gave bytes ∷ []
+reaches settings t (In now datagram took) =
+    if has_syn datagram then copies settings.role took else In (max (moment t) now) datagram took ∷ []
+reaches settings t (Polled now out) =
+    if nat_lt 0 (owed settings t) then [] else Polled (max (moment t) now) out ∷ []
+reaches settings t (Pulled room bytes) = Pulled room bytes ∷ []
+reaches settings t (Owed count) = []
+reaches settings t (Posted bytes) = []
+reaches settings t (Next bytes) = []
+
+-- what a call tells the machine
+abbrev pub tells : OpenSettings → Trace Entry → Option Agreement → Entry → List Entry
+tells settings t None e = begins_by settings (agreed settings (t ▷ e)) (given t)
+tells settings t (Some a) e = reaches settings t e
+
+-- a trace with more entries
+abbrev pub with_entries : {E : Type 0} → Trace E → List E → Trace E
+with_entries t [] = t
+with_entries t (e ∷ es) = with_entries (t ▷ e) es
+
+-- the trace of the machine
+abbrev pub machine : OpenSettings → Trace Entry → Trace Entry
+machine settings Start = Start
+machine settings (t ▷ e) = with_entries (machine settings t) (tells settings t (agreed settings t) e)
+
+-- ---- what is answered and sent
+
+-- An open link answers to openings as its opening does, to the rest as its machine.
+abbrev pub answered_open : OpenSettings → Trace Entry → Agreement → List ℕ → Took
+answered_open settings t a datagram =
+    if is_closed (layout_by settings a) (machine settings t) then Ignored reason.LinkClosed
+    else (if has_syn datagram then opening_answered settings t datagram
+    else answered (layout_by settings a) (machine settings t) datagram)
+
+abbrev pub answered_by : OpenSettings → Trace Entry → Option Agreement → List ℕ → Took
+answered_by settings t None datagram = opening_answered settings t datagram
+answered_by settings t (Some a) datagram = answered_open settings t a datagram
+
+-- the answer to a datagram
+abbrev pub link_answered : OpenSettings → Trace Entry → List ℕ → Took
+link_answered settings t datagram = answered_by settings t (agreed settings t) datagram
+
+-- An open link sends the answers to openings that it owes, and then what its machine sends; a closed
+-- one sends nothing.
+abbrev pub due_open : OpenSettings → Trace Entry → Agreement → ℕ → Option (List ℕ)
+due_open settings t a now =
+    if is_closed (layout_by settings a) (machine settings t) then None
+    else (if nat_lt 0 (owed settings t) then opening_due settings t now
+    else due (layout_by settings a) (machine settings t) (max (moment t) now))
+
+abbrev pub due_by : OpenSettings → Trace Entry → Option Agreement → ℕ → Option (List ℕ)
+due_by settings t None now = opening_due settings t now
+due_by settings t (Some a) now = due_open settings t a now
+
+-- the datagram that a poll sends
+abbrev pub link_due : OpenSettings → Trace Entry → ℕ → Option (List ℕ)
+link_due settings t now = due_by settings t (agreed settings t) now
+
+-- ---- the law
+
+-- the machine's law, once the ends have agreed; before that nothing is pulled, and what is given are
+-- bytes that stay within the queue
+abbrev pub KeepsMachine : OpenSettings → Option Agreement → Trace Entry → Type 0
+KeepsMachine settings None t = (length (given t) ≤ QUEUE) × IsBytes (given t)
+KeepsMachine settings (Some a) t = Faithful (layout_by settings a) (machine settings t)
+
+-- what is true of one call after the calls before it
+abbrev pub Answers : OpenSettings → Trace Entry → Entry → Type 0
+Answers settings t (In now datagram took) = took ≡ link_answered settings t datagram
+Answers settings t (Polled now out) = out ≡ link_due settings t now
+Answers settings t (Gave bytes) = Unit {0}
+Answers settings t (Pulled room bytes) = PulledBy (agreed settings t) bytes where
+  PulledBy : Option Agreement → List ℕ → Type 0
+  PulledBy None bytes = bytes ≡ []
+  PulledBy (Some a) bytes = Unit {0}
+Answers settings t (Owed count) = ⊥
+Answers settings t (Posted bytes) = ⊥
+Answers settings t (Next bytes) = ⊥
+
+-- Each datagram is answered and each poll sends so, and the machine's trace keeps its law.
+abbrev pub LinkFaithful : OpenSettings → Trace Entry → Type 0
+LinkFaithful settings Start = Unit {0}
+LinkFaithful settings (t ▷ e) =
+    Answers settings t e × KeepsMachine settings (agreed settings (t ▷ e)) (t ▷ e) × LinkFaithful settings t
