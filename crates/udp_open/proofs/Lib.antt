@@ -1,1 +1,5 @@
 pub mod Openings
+pub mod OpeningPackets
+pub mod Heard
+pub mod Agreeing
+pub mod Staying

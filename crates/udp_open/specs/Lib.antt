@@ -1,3 +1,5 @@
 pub mod Handshake
 pub mod OpeningView
 pub mod LinkTrace
+pub mod Agreeing
+pub mod LinkView

@@ -1,8 +1,12 @@
 -- What an opening stands for.
-use Rattle.std.specs.Prelude.{◌≡◌, ◌⊎◌, ℕ, ◌<◌, ◌≤◌, ◌^◌, nat_le, max, List, if◌then◌else◌, Option, Some, None, IfSome}
+use Rattle.std.specs.Prelude.{◌≡◌, ◌⊎◌, ℕ, ◌<◌, ◌≤◌, ◌^◌, true, false, nat_le, max, List, if◌then◌else◌, Option, Some, None, IfSome}
 use Rattle.mt_base.specs.declared.kinds.Role.TheVariants.{Client}
 use Rattle.mt_base.specs.Trace.{Trace}
-use Rattle.carrier.specs.Entries.{Entry, moment}
+use Rattle.carrier.specs.declared.state.Took.{Took}
+use Rattle.carrier.specs.declared.state.Took.TheVariants.{Used, Ignored}
+use Rattle.carrier.specs.declared.state.Reason.TheVariants.{LinkClosed}
+use Rattle.carrier.specs.Entries.{Entry, In, Polled, moment}
+use Rattle.carrier.specs.Receiving.{has_effect}
 use Rattle.udp_open.specs.declared.settings.OpenSettings.{OpenSettings}
 use Rattle.udp_open.specs.declared.agreement.Agreement.{Agreement}
 use Rattle.udp_open.specs.declared.timer.Timer.{Timer}
@@ -49,10 +53,23 @@ pub record StandsOpen (o : Handshake) (t : Trace Entry) : Type 0 where
   pub follows : Follows o t
   pub opens : Opens o.settings t
 
+-- A link answers with effect what its opening used, and without effect what its closed opening
+-- ignored; the rest it answers as it likes.
+abbrev pub AnswersFirst : Took → Took → Type 0
+AnswersFirst Used took = has_effect took ≡ true
+AnswersFirst (Ignored LinkClosed) took = has_effect took ≡ false
+AnswersFirst (Ignored why) took = Unit {0}
+
 -- a link sends what its opening sends, and where that is nothing what it likes
 abbrev pub SendsFirst : Option (List ℕ) → Option (List ℕ) → Type 0
 SendsFirst None out = Unit {0}
 SendsFirst (Some bytes) out = out ≡ Some bytes
+
+-- what a closed link does
+abbrev pub IsSilent : Entry → Type 0
+IsSilent (In now datagram took) = took ≡ Ignored LinkClosed
+IsSilent (Polled now out) = out ≡ None
+IsSilent e = ⊥
 
 -- how an opening ends
 abbrev pub end_of : Option Agreement → OpenEnd

@@ -8,20 +8,12 @@ ghost use Rattle.udp_open.specs.Handshake.{shown, version_in, knows, is_of, is_f
 ghost use Rattle.udp_open.specs.OpeningView.{IsOffered};
 
 use crate::agreement::Agreement;
+use crate::flags::{NAMES_VERSION, SYNLOSSY, VERSION_1};
 use crate::settings::OpenSettings;
 use carrier::Reason;
 use mt_base::{Kind, Role};
 use mt_windows::DATAGRAM;
 use udp1_packets::{Body1, Extension, Packet1, Syn1, read1};
-
-/// The flag SYNLOSSY (MS-RDPEUDP section 2.2.2.1).
-const SYNLOSSY: u16 = 0x0200;
-
-/// The flag of an extension that says that it names a version (section 2.2.2.9).
-const NAMES_VERSION: u16 = 0x0001;
-
-/// The first version, which an opening need not name.
-const VERSION_1: u16 = 0x0001;
 
 /// The version that an opening names: 0x0001 where no extension says that it names one.
 fn version_in(extension: Option<Extension<'_>>) -> u16

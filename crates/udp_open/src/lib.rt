@@ -4,17 +4,20 @@
 //! Below it stand `udp1_packets`, which reads and writes the datagrams of an opening, `carrier` with
 //! the calls of a link and what they answer, `mt_windows` with the limits of a link, and the kit's
 //! `sha2`. What the crates above use is that [`Opening`] stands for a trace of its calls, in which
-//! each datagram is answered and each poll sends as the handshake says, and that [`Opening::end`] is
-//! what the ends agreed on in that trace.
+//! each datagram is answered and each poll sends as the handshake says; that [`Opening::end`] is what
+//! was agreed on in that trace; and that two ends which meet agree ([`both_agree`]).
 #![tactic(auto)]
 
 mod agreement;
+mod flags;
 mod hearing;
+mod laws;
 mod opening;
 mod sending;
 mod settings;
 mod timer;
 
+pub use laws::{agreements_stay, both_agree, closed_for_good, openings_are_due};
 pub use opening::{OpenEnd, Opening};
 pub use settings::{OpenSettings, hash_cookie};
 

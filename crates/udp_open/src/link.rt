@@ -1,11 +1,18 @@
 //! A link that opens, and then goes on as a machine.
 
-ghost use Rattle.std.specs.Prelude.{◌≡◌, ◌<◌, ◌≤◌, ◌^◌, ◌++◌, [], ℕ, List, Option, Some, None, length, IfOk};
+ghost use Rattle.std.specs.Prelude.{◌≡◌, ◌+◌, ◌<◌, ◌≤◌, ◌^◌, ◌++◌, ◌%◌, ◌==◌, [], ℕ, List, Option, Some, None, true, false, max, length, get_or, option_map, take, IfOk, IfSome};
+ghost use Rattle.mt_base.specs.declared.kinds.Role.TheVariants.{Client as IsClient};
 ghost use Rattle.mt_base.specs.Trace.{Trace, Start, ◌▷◌};
-ghost use Rattle.carrier.specs.Entries.{Entry, In, Polled};
-ghost use Rattle.udp_open.specs.OpeningView.{IsOffered};
-ghost use Rattle.udp_open.specs.LinkTrace.{LinkFaithful};
-ghost use Rattle.udp_open.specs.LinkView.{StandsLink, condition_in, left_in, load_in};
+ghost use Rattle.mt_windows.specs.ArrivedView.{left_of};
+ghost use Rattle.mt_windows.specs.SendingView.{queued_of};
+ghost use Rattle.carrier.specs.declared.state.LinkState.TheVariants.{Closed as IsClosed};
+ghost use Rattle.carrier.specs.declared.state.Took.TheVariants.{Ignored};
+ghost use Rattle.carrier.specs.declared.state.Reason.TheVariants as reason;
+ghost use Rattle.carrier.specs.Entries.{Entry, Gave, In, Polled, Owed};
+ghost use Rattle.udp1_core.specs.MachineView.{Stands, layout_of, link_layout, condition_of};
+ghost use Rattle.udp_open.specs.OpeningView.{IsOffered, end_of};
+ghost use Rattle.udp_open.specs.LinkTrace.{LinkFaithful, begins, with_entries, has_syn};
+ghost use Rattle.udp_open.specs.LinkView.{StandsLink, condition_in, left_in, load_in, IsNextDueIn};
 
 use crate::opening::{OpenEnd, Opening};
 use crate::settings::OpenSettings;
@@ -26,6 +33,19 @@ pub struct UdpLink {
     core: Udp1Core,
 }
 
+impl Model for UdpLink {
+    ghost use Rattle.std.specs.Prelude.{◌≤◌};
+    ghost use Rattle.std.specs.Global.{vec_capacity};
+    ghost use Rattle.mt_windows.specs.declared.limits.TheConstants.{QUEUE};
+    ghost use Rattle.udp_open.specs.LinkView.{Link, IsSoundLink};
+
+    ghost Value = { Link };
+
+    ghost view = { λ l. record { opening = l.opening; early = l.early.items; core = l.core } };
+
+    ghost invariant = { λ l. record { sound : IsSoundLink (record { opening = l.opening; early = l.early.items; core = l.core }); room : QUEUE ≤ vec_capacity l.early } };
+}
+
 impl UdpLink {
     /// A link that opens with these settings, whose version is 0x0001 or 0x0002.
     pub fn new(alloc: Global, settings: &OpenSettings) -> Result<UdpLink, NoMemory>
@@ -44,8 +64,17 @@ impl UdpLink {
         })
     }
 
-    /// Hands the bytes that were given while the link opened to its machine, which starts.
-    fn begin(&mut self, version: u16, peer_initial: u32) {
+    /// Starts the machine, and hands it the bytes that were given while the link opened.
+    fn begin(&mut self, version: u16, peer_initial: u32)
+        requires { IsOffered version }
+        ensures stands { Stands self.new.core (with_entries Start (begins self.old.opening.settings.role self.old.early)) }
+        ensures layout { layout_of self.new.core ≡ link_layout self.old.opening.settings.initial peer_initial version }
+        ensures left { left_of self.new.core.receiver.inbox ≡ [] }
+        ensures queued { queued_of self.new.core.sender.outbox ≤ length self.old.early }
+        ensures open { (e : ℕ) → condition_of self.new.core ≡ IsClosed e → ⊥ }
+        ensures early { self.new.early ≡ [] }
+        ensures opening { self.new.opening ≡ self.old.opening }
+    {
         self.core
             .start(self.opening.initial(), peer_initial, version);
         match self.core.give(&self.early) {
@@ -78,7 +107,7 @@ impl UdpLink {
 
     /// Takes a datagram where the link is open.
     fn input_open(&mut self, now: u64, datagram: &[u8]) -> Took {
-        if self.core.is_closed() {
+        if self.is_closed() {
             self.opening.pass(now);
             return Took::Ignored(Reason::LinkClosed);
         }
@@ -92,12 +121,96 @@ impl UdpLink {
         }
         took
     }
+
+    /// Sends where the link is open.
+    fn poll_open(&mut self, now: u64, out: &mut [u8; 1232]) -> Option<usize> {
+        if self.is_closed() {
+            self.opening.pass(now);
+            return None;
+        }
+        if let Some(length) = self.opening.poll(now, out) {
+            return Some(length);
+        }
+        self.core.poll(self.opening.moment(), out)
+    }
+
+    /// Whether the machine of an open link is closed.
+    fn is_closed(&self) -> bool {
+        matches!(self.core.state(), LinkState::Closed { .. })
+    }
 }
 
 /// Whether the datagram's flag SYN is set (MS-RDPEUDP section 2.2.2.1).
-fn has_syn(datagram: &[u8]) -> bool {
+fn has_syn(datagram: &[u8]) -> bool
+    ensures { result ≡ has_syn datagram.now }
+{
     match datagram.get(7) {
         Some(flags) => flags % 2 == 1,
         None => false,
     }
+}
+
+impl Carrier for UdpLink {
+    ghost stands = { λ l t. StandsLink l t };
+
+    ghost law = { λ l t. LinkFaithful l.opening.settings t };
+
+    ghost left = { λ l. left_in l };
+
+    ghost load = { λ l. load_in l };
+
+    ghost condition = { λ l. condition_in l };
+
+    ghost next = { λ l t m. IsNextDueIn l.opening.settings t m };
+
+    fn input(&mut self, now: u64, datagram: &[u8]) -> Took {
+        match self.opening.end() {
+            OpenEnd::Waiting => self.input_opening(now, datagram),
+            OpenEnd::Agreed { .. } => self.input_open(now, datagram),
+        }
+    }
+
+    fn poll(&mut self, now: u64, out: &mut [u8; 1232]) -> Option<usize> {
+        match self.opening.end() {
+            OpenEnd::Waiting => self.opening.poll(now, out),
+            OpenEnd::Agreed { .. } => self.poll_open(now, out),
+        }
+    }
+
+    fn give(&mut self, bytes: &[u8]) -> Result<(), GiveRefusal> {
+        match self.opening.end() {
+            OpenEnd::Waiting => self.keep(bytes),
+            OpenEnd::Agreed { .. } => self.core.give(bytes),
+        }
+    }
+
+    fn pull(&mut self, out: &mut [u8]) -> usize {
+        match self.opening.end() {
+            OpenEnd::Waiting => 0,
+            OpenEnd::Agreed { .. } => self.core.pull(out),
+        }
+    }
+
+    fn queued(&self) -> usize {
+        match self.opening.end() {
+            OpenEnd::Waiting => self.early.len(),
+            OpenEnd::Agreed { .. } => self.core.queued(),
+        }
+    }
+
+    fn next_due(&self) -> Option<u64> {
+        match self.opening.end() {
+            OpenEnd::Waiting => self.opening.next_due(),
+            OpenEnd::Agreed { .. } => self.next_open(),
+        }
+    }
+
+    fn state(&self) -> LinkState {
+        match self.opening.end() {
+            OpenEnd::Waiting => self.state_opening(),
+            OpenEnd::Agreed { .. } => self.core.state(),
+        }
+    }
+
+    ghost keeps = { λ l t h. h.faithful };
 }

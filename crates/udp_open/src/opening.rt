@@ -8,7 +8,7 @@ ghost use Rattle.carrier.specs.Entries.{Entry, In, Polled};
 ghost use Rattle.carrier.specs.Receiving.{has_effect};
 ghost use Rattle.udp1_packets.specs.Layout.{spelled};
 ghost use Rattle.udp_open.specs.Handshake.{agreed, expiries, row, is_closed, asked, is_time, started, owed_by, syn_ack, opening_answered, opening_due, IsNextDue};
-ghost use Rattle.udp_open.specs.OpeningView.{IsOffered, IsTimer, Follows, StandsOpen, SendsFirst, end_of, after_asking, next_syn};
+ghost use Rattle.udp_open.specs.OpeningView.{IsOffered, IsTimer, Follows, StandsOpen, AnswersFirst, SendsFirst, end_of, after_asking, next_syn};
 
 use crate::agreement::Agreement;
 use crate::hearing::hear;
@@ -79,8 +79,7 @@ impl Opening {
             has_effect result ≡ not (is_closed self.old.settings t) }
         // A link of this opening may answer otherwise.
         ensures follows { (t : Trace Entry) (took : Took) → Follows self.old t →
-            has_effect took ≡ not (is_closed self.old.settings t) →
-            Follows self.new (t ▷ In now datagram.now took) }
+            AnswersFirst result took → Follows self.new (t ▷ In now datagram.now took) }
         ensures settings { self.new.settings ≡ self.old.settings }
     {
         self.moment = self.moment.max(now);

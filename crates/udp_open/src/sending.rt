@@ -7,27 +7,14 @@ ghost use Rattle.udp_open.specs.Handshake.{marks_of, opening_syn, opening, syn, 
 ghost use Rattle.udp_open.specs.OpeningView.{IsOffered};
 
 use crate::agreement::Agreement;
+use crate::flags::{NAMES_VERSION, SYNLOSSY, VERSION_1};
 use crate::settings::OpenSettings;
 use mt_base::Kind;
+use mt_windows::{DATAGRAM, WINDOW};
 use udp1_packets::{Body1, Extension, Packet1, Syn1, write1};
-
-/// The window of each end, in packets.
-const WINDOW: u16 = 64;
-
-/// The MTUs of each end.
-const MTU: u16 = 1232;
 
 /// What the SYN of a client has in place of an acknowledgement.
 const NO_ACK: u32 = 0xffff_ffff;
-
-/// The flag SYNLOSSY (MS-RDPEUDP section 2.2.2.1).
-const SYNLOSSY: u16 = 0x0200;
-
-/// The flag of an extension that says that it names a version (section 2.2.2.9).
-const NAMES_VERSION: u16 = 0x0001;
-
-/// The first version, which an opening need not name.
-const VERSION_1: u16 = 0x0001;
 
 /// The zeros that fill an opening up to 1,232 bytes, with an extension and without one.
 const BEHIND_EXTENSION: usize = 1212;
@@ -58,8 +45,8 @@ fn opening_of(settings: &OpenSettings, answer: bool, version: Option<u16>) -> Sy
     Syn1 {
         answer,
         initial: settings.initial,
-        up: MTU,
-        down: MTU,
+        up: DATAGRAM as u16,
+        down: DATAGRAM as u16,
         correlation: None,
         extension,
         padding: match version {
@@ -70,19 +57,13 @@ fn opening_of(settings: &OpenSettings, answer: bool, version: Option<u16>) -> Sy
 }
 
 /// Writes a SYN or a SYN+ACK of this end that names a version, or none. It fills the datagram.
-fn send(
-    settings: &OpenSettings,
-    answer: bool,
-    ack: u32,
-    version: Option<u16>,
-    out: &mut [u8; 1232],
-)
+fn send(settings: &OpenSettings, answer: bool, ack: u32, version: Option<u16>, out: &mut [u8; 1232])
     requires { IfSome version IsOffered }
     ensures { out.new ≡ spelled (opening settings.now answer ack version) }
 {
     let packet = Packet1 {
         ack,
-        window: WINDOW,
+        window: WINDOW as u16,
         marks: marks_of(settings.kind),
         body: Body1::Syn(opening_of(settings, answer, version)),
     };
@@ -108,6 +89,10 @@ pub fn send_syn_ack(settings: &OpenSettings, agreement: Agreement, out: &mut [u8
     requires { IsOffered agreement.version }
     ensures { out.new ≡ spelled (syn_ack settings.now agreement) }
 {
-    let version = if agreement.extended { Some(agreement.version) } else { None };
+    let version = if agreement.extended {
+        Some(agreement.version)
+    } else {
+        None
+    };
     send(settings, true, agreement.peer_initial, version, out);
 }

@@ -1,2 +1,245 @@
+ghost use Rattle.std.specs.Prelude.{◌<◌, ◌^◌};
+ghost use Rattle.udp_open.specs.OpeningView.{IsOffered};
+
 use super::*;
+use carrier::{Reason, Refusal1, Took};
+use mt_base::{Kind, Role, Short};
 use std::test::*;
+
+/// What the SYN of a client with version 0x0002 and the initial number 1 begins with.
+const SYN: [u8; 20] = [
+    0xff, 0xff, 0xff, 0xff, 0x00, 0x40, 0x10, 0x01, 0, 0, 0, 1, 0x04, 0xd0, 0x04, 0xd0, 0, 1, 0, 2,
+];
+
+/// What a server with version 0x0002 and the initial number 9 answers it with.
+const SYN_ACK: [u8; 20] = [
+    0, 0, 0, 1, 0x00, 0x40, 0x10, 0x05, 0, 0, 0, 9, 0x04, 0xd0, 0x04, 0xd0, 0, 1, 0, 2,
+];
+
+fn opening(role: Role, kind: Kind, version: u16, initial: u32) -> Opening
+    requires { IsOffered version }
+{
+    Opening::new(&OpenSettings {
+        role,
+        kind,
+        version,
+        initial,
+        cookie_hash: hash_cookie(&[0; 16]),
+    })
+}
+
+/// A datagram of 1,232 bytes that begins so, with zeros behind.
+fn filled(front: &[u8]) -> [u8; 1232] {
+    let mut datagram = [0; 1232];
+    for (place, byte) in datagram.iter_mut().zip(front) {
+        *place = *byte;
+    }
+    datagram
+}
+
+/// Polls the opening, and says whether it sends just a datagram that begins so, with zeros behind.
+fn sends(opening: &mut Opening, now: u64, front: &[u8]) -> bool
+    requires { now < 2 ^ 62 }
+{
+    let mut out = [0xaa; 1232];
+    opening.poll(now, &mut out) == Some(1232) && out == filled(front)
+}
+
+/// Polls the opening, and says whether it sends nothing.
+fn is_silent(opening: &mut Opening, now: u64) -> bool
+    requires { now < 2 ^ 62 }
+{
+    let mut out = [0; 1232];
+    opening.poll(now, &mut out).is_none()
+}
+
+#[test]
+fn both_ends_agree(rt: HostRuntime) {
+    let mut client = opening(Role::Client, Kind::Reliable, 2, 1);
+    let mut server = opening(Role::Server, Kind::Reliable, 2, 9);
+    assert_eq!(rt; client.end(), OpenEnd::Waiting);
+    assert_eq!(rt; server.next_due(), None);
+    assert!(rt; sends(&mut client, 0, &SYN));
+    assert_eq!(rt; server.input(0, &filled(&SYN)), Took::Used);
+    assert!(rt; sends(&mut server, 0, &SYN_ACK));
+    assert_eq!(rt; client.input(0, &filled(&SYN_ACK)), Took::Used);
+    let agreed = OpenEnd::Agreed {
+        version: 2,
+        peer_initial: 9,
+    };
+    assert_eq!(rt; client.end(), agreed);
+    assert!(rt; is_silent(&mut client, 1_000_000));
+    assert_eq!(rt; client.next_due(), None);
+    let agreed = OpenEnd::Agreed {
+        version: 2,
+        peer_initial: 1,
+    };
+    assert_eq!(rt; server.end(), agreed);
+}
+
+#[test]
+fn another_syn_is_not_ours(rt: HostRuntime) {
+    let mut server = opening(Role::Server, Kind::Reliable, 2, 9);
+    assert_eq!(rt; server.input(0, &filled(&SYN)), Took::Used);
+    let mut other = filled(&SYN);
+    other[11] = 2;
+    assert_eq!(rt; server.input(0, &other), Took::Ignored(Reason::NotOurs));
+    let mut lossy = opening(Role::Server, Kind::Lossy, 2, 9);
+    assert_eq!(rt;
+        lossy.input(0, &filled(&SYN)),
+        Took::Ignored(Reason::WrongKind)
+    );
+}
+
+#[test]
+fn a_cookie_is_known_by_its_hash(rt: HostRuntime) {
+    let hash = [
+        0x37, 0x47, 0x08, 0xff, 0xf7, 0x71, 0x9d, 0xd5, 0x97, 0x9e, 0xc8, 0x75, 0xd5, 0x6c, 0xd2,
+        0x28, 0x6f, 0x6d, 0x3c, 0xf7, 0xec, 0x31, 0x7a, 0x3b, 0x25, 0x63, 0x2a, 0xab, 0x28, 0xec,
+        0x37, 0xbb,
+    ];
+    assert_eq!(rt; hash_cookie(&[0; 16]), hash);
+    let syn = [
+        0xff, 0xff, 0xff, 0xff, 0x00, 0x40, 0x10, 0x01, 0, 0, 0, 1, 0x04, 0xd0, 0x04, 0xd0, 0, 1,
+        1, 1, 0x37, 0x47, 0x08, 0xff, 0xf7, 0x71, 0x9d, 0xd5, 0x97, 0x9e, 0xc8, 0x75, 0xd5, 0x6c,
+        0xd2, 0x28, 0x6f, 0x6d, 0x3c, 0xf7, 0xec, 0x31, 0x7a, 0x3b, 0x25, 0x63, 0x2a, 0xab, 0x28,
+        0xec, 0x37, 0xbb,
+    ];
+    let mut other = filled(&syn);
+    other[51] = 0xba;
+    let mut server = opening(Role::Server, Kind::Reliable, 2, 9);
+    assert_eq!(rt;
+        server.input(0, &other),
+        Took::Ignored(Reason::UnknownCookie)
+    );
+    assert_eq!(rt; server.input(0, &filled(&syn)), Took::Used);
+    assert!(rt; sends(&mut server, 0, &SYN_ACK));
+}
+
+#[test]
+fn laws_hold() {
+    both_agree();
+    openings_are_due();
+    agreements_stay();
+    closed_for_good();
+}
+
+#[test]
+fn each_copy_is_answered_once(rt: HostRuntime) {
+    let mut server = opening(Role::Server, Kind::Reliable, 2, 9);
+    assert_eq!(rt; server.input(5, &filled(&SYN)), Took::Used);
+    assert_eq!(rt; server.input(7, &filled(&SYN)), Took::Used);
+    assert_eq!(rt; server.next_due(), Some(7));
+    assert!(rt; sends(&mut server, 8, &SYN_ACK));
+    assert!(rt; sends(&mut server, 8, &SYN_ACK));
+    assert!(rt; is_silent(&mut server, 1_000_000));
+    assert_eq!(rt; server.input(1_000_000, &filled(&SYN)), Took::Used);
+    assert!(rt; sends(&mut server, 1_000_000, &SYN_ACK));
+    assert!(rt; is_silent(&mut server, 1_000_000));
+}
+
+#[test]
+fn an_answer_names_the_syn(rt: HostRuntime) {
+    let mut client = opening(Role::Client, Kind::Reliable, 2, 1);
+    let mut answer = filled(&SYN_ACK);
+    answer[3] = 2;
+    assert_eq!(rt; client.input(0, &answer), Took::Ignored(Reason::BadAnswer));
+    answer[3] = 1;
+    answer[18] = 1;
+    answer[19] = 1;
+    assert_eq!(rt; client.input(0, &answer), Took::Ignored(Reason::BadAnswer));
+    assert_eq!(rt;
+        client.input(0, &filled(&SYN)),
+        Took::Ignored(Reason::NotOpen)
+    );
+    assert_eq!(rt; client.input(0, &filled(&SYN_ACK)), Took::Used);
+    assert_eq!(rt; client.input(0, &filled(&SYN_ACK)), Took::Used);
+    answer[11] = 8;
+    assert_eq!(rt; client.input(0, &answer), Took::Ignored(Reason::NotOurs));
+}
+
+#[test]
+fn nothing_else_opens(rt: HostRuntime) {
+    let mut server = opening(Role::Server, Kind::Reliable, 2, 9);
+    assert_eq!(rt;
+        server.input(0, &filled(&SYN_ACK)),
+        Took::Ignored(Reason::NotOpen)
+    );
+    let bare = [0, 0, 0, 1, 0, 0x40, 0, 0];
+    assert_eq!(rt; server.input(0, &bare), Took::Ignored(Reason::NotOpen));
+    assert_eq!(rt; server.input(0, &[0; 1233]), Took::Ignored(Reason::TooLong));
+    let short = Refusal1::Short(Short { at: 4, need: 2 });
+    assert_eq!(rt;
+        server.input(0, &bare[..5]),
+        Took::Ignored(Reason::First(short))
+    );
+    assert_eq!(rt; server.input(0, &filled(&SYN)), Took::Used);
+    assert_eq!(rt; server.input(0, &bare), Took::Ignored(Reason::NotOurs));
+}
+
+#[test]
+fn the_first_version_is_not_named(rt: HostRuntime) {
+    let mut client = opening(Role::Client, Kind::Lossy, 1, 0);
+    let syn = [
+        0xff, 0xff, 0xff, 0xff, 0x00, 0x40, 0x02, 0x01, 0, 0, 0, 0, 0x04, 0xd0, 0x04, 0xd0,
+    ];
+    assert!(rt; sends(&mut client, 0, &syn));
+    let mut server = opening(Role::Server, Kind::Lossy, 2, 4_294_967_295);
+    assert_eq!(rt; server.input(0, &filled(&syn)), Took::Used);
+    let answer = [
+        0, 0, 0, 0, 0x00, 0x40, 0x02, 0x05, 0xff, 0xff, 0xff, 0xff, 0x04, 0xd0, 0x04, 0xd0,
+    ];
+    assert!(rt; sends(&mut server, 0, &answer));
+    assert_eq!(rt; client.input(0, &filled(&answer)), Took::Used);
+    let agreed = OpenEnd::Agreed {
+        version: 1,
+        peer_initial: 4_294_967_295,
+    };
+    assert_eq!(rt; client.end(), agreed);
+}
+
+#[test]
+fn a_syn_that_is_lost_comes_again(rt: HostRuntime) {
+    let mut client = opening(Role::Client, Kind::Reliable, 2, 1);
+    assert_eq!(rt; client.next_due(), Some(0));
+    assert!(rt; sends(&mut client, 3, &SYN));
+    assert!(rt; is_silent(&mut client, 502));
+    assert!(rt; sends(&mut client, 503, &SYN));
+    assert_eq!(rt; client.expiries(), 1);
+    assert!(rt; is_silent(&mut client, 1502));
+    assert!(rt; sends(&mut client, 1503, &SYN));
+    assert_eq!(rt; client.expiries(), 2);
+    assert_eq!(rt; client.next_due(), Some(3503));
+    assert_eq!(rt; client.input(1600, &filled(&SYN_ACK)), Took::Used);
+    assert_eq!(rt; client.expiries(), 0);
+    assert!(rt; is_silent(&mut client, 3503));
+}
+
+#[test]
+fn a_syn_that_is_never_answered_closes(rt: HostRuntime) {
+    let mut client = opening(Role::Client, Kind::Reliable, 2, 1);
+    let moments = [
+        0, 500, 1500, 3500, 7500, 15500, 23500, 31500, 39500, 47500, 55500, 63500, 71500, 79500,
+        87500, 95500, 103500,
+    ];
+    for moment in moments {
+        assert_eq!(rt; client.next_due(), Some(moment));
+        assert!(rt; sends(&mut client, moment, &SYN));
+    }
+    assert!(rt; is_silent(&mut client, 111499));
+    assert_eq!(rt; client.expiries(), 16);
+    assert_eq!(rt;
+        client.input(111499, &filled(&SYN)),
+        Took::Ignored(Reason::NotOpen)
+    );
+    assert_eq!(rt; client.next_due(), Some(111500));
+    assert!(rt; is_silent(&mut client, 111500));
+    assert_eq!(rt; client.expiries(), 17);
+    assert_eq!(rt; client.next_due(), None);
+    assert_eq!(rt;
+        client.input(111501, &filled(&SYN_ACK)),
+        Took::Ignored(Reason::LinkClosed)
+    );
+    assert_eq!(rt; client.end(), OpenEnd::Waiting);
+    assert!(rt; is_silent(&mut client, 1_000_000));
+}

@@ -8,9 +8,9 @@ pub returns-in-Ok-clause-value : goal.returns-in-Ok-clause-value
 returns-in-Ok-clause-value c =
     c.heard.ensures.value
     ∙ sym (ap (hears c.args.settings.now c.args.agreement)
-          (spelled_shows c.args.datagram.now (packet_of c.in-Ok.packet) c.if-datagram-gt-DATAGRAM.false c.in-Ok.ensures.found))
+    (spelled_shows c.args.datagram.now (packet_of c.in-Ok.packet) c.if-datagram-gt-DATAGRAM.false c.in-Ok.ensures.found))
 
 pub returns-in-Err-clause-value : goal.returns-in-Err-clause-value
 returns-in-Err-clause-value c =
     sym (ap (hears c.args.settings.now c.args.agreement)
-          (fault_shows c.args.datagram.now c.in-Err.refusal c.if-datagram-gt-DATAGRAM.false c.in-Err.ensures.refused))
+    (fault_shows c.args.datagram.now c.in-Err.refusal c.if-datagram-gt-DATAGRAM.false c.in-Err.ensures.refused))

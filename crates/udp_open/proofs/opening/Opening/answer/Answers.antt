@@ -9,4 +9,4 @@ pub returns-clause-bytes : goal.returns-clause-bytes
 returns-clause-bytes c =
     let o = c.args.self.now in
     fills (nat_lt 0 o.owed) c.send_syn_ack.new.out (spelled (syn_ack o.settings c.args.agreement)) (search rules) c.send_syn_ack.array_long
-        (c.send_syn_ack.ensures ∙ ap (λ (h : Handshake). spelled (syn_ack h.settings c.args.agreement)) c.self.view_is)
+    (c.send_syn_ack.ensures ∙ ap (λ (h : Handshake). spelled (syn_ack h.settings c.args.agreement)) c.self.view_is)

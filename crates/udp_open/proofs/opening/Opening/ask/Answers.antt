@@ -10,6 +10,6 @@ pub returns-clause-bytes : goal.returns-clause-bytes
 returns-clause-bytes c =
     let o = c.args.self.now in
     asks_now o.settings o.timer o.moment c.send_syn.new.out (search rules)
-        (ap (λ (t : Timer). nat_lt 16 t.expiries) (sym c.started-timer.ensures.value) ∙ sym c.is_over.ensures ∙ c.if-is_over.false)
-        c.send_syn.array_long
-        (c.send_syn.ensures ∙ ap (λ (h : Handshake). spelled (syn h.settings)) c.self.view_is)
+    (ap (λ (t : Timer). nat_lt 16 t.expiries) (sym c.started-timer.ensures.value) ∙ sym c.is_over.ensures ∙ c.if-is_over.false)
+    c.send_syn.array_long
+    (c.send_syn.ensures ∙ ap (λ (h : Handshake). spelled (syn h.settings)) c.self.view_is)
