@@ -269,6 +269,7 @@ impl<W: Width> SendWindow<W> {
         ensures holds { (first : ℕ) (t : Trace Act) → Sends self.old first t → Sends self.new first (t ▷ Resent (part - first)) }
         ensures queued { queued_of self.new ≡ queued_of self.old }
         ensures fits { result.length ≤ 1000 }
+        ensures near { self.old.first + self.old.cut ≤ part + 64 }
     {
         let flight = &mut self.flights[(part - self.first - self.base) as usize];
         flight.latest = self.made;

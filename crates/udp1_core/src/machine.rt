@@ -1,11 +1,11 @@
 //! The machine.
 
-ghost use Rattle.std.specs.Prelude.{◌≡◌, ◌⊎◌, ◌+◌, ◌-◌, ◌<◌, ◌≤◌, ◌^◌, ◌++◌, ◌∷◌, [], ◌==◌, ℕ, List, Some, None, true, if◌then◌else◌, length, take, drop, IfOk, IfSome, option_map};
+ghost use Rattle.std.specs.Prelude.{◌≡◌, ◌⊎◌, ◌+◌, ◌-◌, ◌<◌, ◌≤◌, ◌^◌, ◌++◌, ◌∷◌, [], ◌==◌, ℕ, List, Some, None, true, if◌then◌else◌, length, take, drop, IfOk, IfSome, option_map, All};
 ghost use Rattle.mt_base.specs.Trace.{Trace, Start, ◌▷◌};
 ghost use Rattle.mt_windows.specs.Arrived.{Parts};
 ghost use Rattle.mt_windows.specs.ArrivedView.{left_of};
 ghost use Rattle.mt_windows.specs.Sending.Act.{Cut, Resent};
-ghost use Rattle.mt_windows.specs.Sending.{Act, lowest_or_next};
+ghost use Rattle.mt_windows.specs.Sending.{Act, cuts, lowest_or_next};
 ghost use Rattle.mt_windows.specs.SendingView.{limits, queued_of, is_unsettled, reach_of, next_transmission, may_cut_of};
 ghost use Rattle.udp1_packets.specs.Layout.{spelled};
 ghost use Rattle.carrier.specs.Entries.{Entry, In, Polled, Owed};
@@ -14,6 +14,7 @@ ghost use Rattle.carrier.specs.Receiving.{receives, owes, floor_shown};
 ghost use Rattle.carrier.specs.Sending.{Timer, hears, timer_told};
 ghost use Rattle.carrier.specs.Due.{is_pressing, IsNextDue};
 ghost use Rattle.carrier.specs.Law.{answer_load, Faithful};
+ghost use Rattle.carrier.specs.LayoutLaw.{IsCarried};
 ghost use Rattle.udp1_core.specs.FirstLayout.{packet_with};
 ghost use Rattle.udp1_core.specs.ReceiverView.{Hears, head_of};
 ghost use Rattle.udp1_core.specs.SenderView.{Speaks, timer_begun};
@@ -147,6 +148,8 @@ impl Udp1Core {
         ensures bytes { (acts : Trace Act) (told : ℕ) (timer : Timer) (parts : Parts) (n floor : ℕ) (owed : List ℕ) →
             Speaks self.old.sender acts told timer → Hears self.old.receiver parts n floor owed →
             take result out.new ≡ spelled (packet_with (carries self.old.receiver.peer parts floor owed None (fresh_load self.old.sender.own acts))) }
+        ensures carried { (acts : Trace Act) (told : ℕ) (timer : Timer) → Speaks self.old.sender acts told timer →
+            IsCarried (layout_of self.old) (fresh_load self.old.sender.own acts) }
         ensures sends { (acts : Trace Act) (told : ℕ) (timer : Timer) → Speaks self.old.sender acts told timer →
             Speaks self.new.sender (acts ▷ Cut) told (timer_begun (layout_of self.old) acts timer self.old.moment) }
         ensures hears { (parts : Parts) (n floor : ℕ) (owed : List ℕ) → Hears self.old.receiver parts n floor owed →
@@ -159,10 +162,9 @@ impl Udp1Core {
     {
         let numbers = self.sender.next_numbers();
         let head = self.receiver.head(None, Some(numbers), out);
-        match out[head..].first_chunk_mut::<1000>() {
-            Some(data) => head + self.sender.cut(self.moment, data),
-            None => unreachable!(),
-        }
+        let mut bytes = [0; 1000];
+        let length = self.sender.cut(self.moment, &mut bytes);
+        put_behind(head, &bytes[..length], out)
     }
 
     /// Writes the datagram that carries an unsettled part again.
@@ -176,6 +178,10 @@ impl Udp1Core {
             Speaks self.old.sender acts told timer → Hears self.old.receiver parts n floor owed →
             take result out.new ≡ spelled (packet_with (carries self.old.receiver.peer parts floor owed
             (Some (self.old.sender.own + lowest_or_next limits acts)) (again_load self.old.sender.own p acts))) }
+        ensures carried { (p : ℕ) (acts : Trace Act) (told : ℕ) (timer : Timer) → part ≡ self.old.sender.own + p →
+            Speaks self.old.sender acts told timer → IsCarried (layout_of self.old) (again_load self.old.sender.own p acts) }
+        ensures near { (p : ℕ) (acts : Trace Act) (told : ℕ) (timer : Timer) → part ≡ self.old.sender.own + p →
+            Speaks self.old.sender acts told timer → cuts acts ≤ p + 64 }
         ensures sends { (p : ℕ) (acts : Trace Act) (told : ℕ) (timer : Timer) → part ≡ self.old.sender.own + p →
             Speaks self.old.sender acts told timer → Speaks self.new.sender (acts ▷ Resent p) told timer }
         ensures hears { (parts : Parts) (n floor : ℕ) (owed : List ℕ) → Hears self.old.receiver parts n floor owed →
@@ -193,10 +199,9 @@ impl Udp1Core {
         let head = self
             .receiver
             .head(Some(self.sender.floor()), Some(numbers), out);
-        match out[head..].first_chunk_mut::<1000>() {
-            Some(data) => head + self.sender.resend(part, data),
-            None => unreachable!(),
-        }
+        let mut bytes = [0; 1000];
+        let length = self.sender.resend(part, &mut bytes);
+        put_behind(head, &bytes[..length], out)
     }
 
     /// Writes a datagram that only tells what was received, where that has to be told.
@@ -217,6 +222,18 @@ impl Udp1Core {
         }
         Some(self.receiver.head(None, None, out))
     }
+}
+
+/// Writes the bytes of a part behind the head of its datagram, and gives the length of both.
+fn put_behind(head: usize, bytes: &[u8], out: &mut [u8; 1232]) -> usize
+    requires { head + length bytes.now ≤ 1232 }
+    ensures length { result ≡ head + length bytes.now }
+    ensures bytes { take result out.new ≡ take head out.old ++ bytes.now }
+    ensures good { All (λ b. b < 256) bytes.now }
+{
+    let end = head + bytes.len();
+    out[head..end].copy_from_slice(bytes);
+    end
 }
 
 /// The shortest wait of the timer, in milliseconds.

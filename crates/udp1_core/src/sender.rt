@@ -387,6 +387,7 @@ impl Sender {
         ensures stands { (acts : Trace Act) (told : ℕ) (timer : Timer) → Speaks self.old acts told timer →
             Speaks self.new (acts ▷ Resent (part - self.old.own)) told timer }
         ensures fits { result ≤ 1000 }
+        ensures near { (acts : Trace Act) (told : ℕ) (timer : Timer) → Speaks self.old acts told timer → self.old.own + cuts acts ≤ part + 64 }
         ensures queued { queued_of self.new.outbox ≡ queued_of self.old.outbox }
         ensures timer { self.new.timer ≡ self.old.timer }
         ensures own { self.new.own ≡ self.old.own }
