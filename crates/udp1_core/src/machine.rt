@@ -1,6 +1,6 @@
 //! The machine.
 
-ghost use Rattle.std.specs.Prelude.{◌≡◌, ◌⊎◌, ◌+◌, ◌-◌, ◌<◌, ◌≤◌, ◌^◌, ◌++◌, ◌∷◌, [], ◌==◌, ℕ, List, Some, None, true, if◌then◌else◌, length, take, drop, IfOk, IfSome, option_map, All};
+ghost use Rattle.std.specs.Prelude.{⊤, ◌≡◌, ◌⊎◌, ◌+◌, ◌-◌, ◌<◌, ◌≤◌, ◌^◌, ◌++◌, ◌∷◌, [], ◌==◌, ℕ, List, Some, None, true, if◌then◌else◌, length, take, drop, IfOk, IfSome, option_map, All};
 ghost use Rattle.mt_base.specs.Trace.{Trace, Start, ◌▷◌};
 ghost use Rattle.mt_windows.specs.Arrived.{Parts};
 ghost use Rattle.mt_windows.specs.ArrivedView.{left_of};
@@ -47,7 +47,7 @@ pub struct Udp1Core {
 }
 
 impl Model for Udp1Core {
-    ghost use Rattle.std.specs.Prelude.{◌<◌, ◌^◌};
+    ghost use Rattle.std.specs.Prelude.{⊤, ◌<◌, ◌^◌};
     ghost use Rattle.udp1_core.specs.MachineView.{Machine};
 
     ghost Value = { Machine };
@@ -272,7 +272,7 @@ impl Carrier for Udp1Core {
 
     ghost condition = { λ c. condition_of c };
 
-    ghost next = { λ c t m. IsNextDue (layout_of c) t m };
+    ghost next = { λ c t m. ⊤ };
 
     fn input(&mut self, now: u64, datagram: &[u8]) -> Took {
         self.moment = self.moment.max(now);

@@ -29,21 +29,23 @@ has_syn datagram = get_or datagram 7 0 % 2 == 1
 abbrev pub layout_by : OpenSettings → Agreement → Layout
 layout_by settings a = link_layout settings.initial a.peer_initial a.version
 
--- What the taking of an opening tells a machine: the bytes that were given while it opened, and at a
--- client that two tellings are owed.
+-- what the opening that was taken, and each copy of it, tells a machine: at a client that two tellings
+-- are owed
+abbrev pub tellings : Role → List Entry
+tellings Server = []
+tellings Client = Owed 2 ∷ []
+
+-- what the opening that is taken tells it before that: the bytes that were given while the link opened
 abbrev pub begins : Role → List ℕ → List Entry
-begins Server early = Gave early ∷ []
-begins Client early = Gave early ∷ Owed 2 ∷ []
+begins role early = Gave early ∷ tellings role
 
 abbrev pub begins_by : OpenSettings → Option Agreement → List ℕ → List Entry
 begins_by settings None early = []
 begins_by settings (Some a) early = begins settings.role early
 
--- what a copy of the opening that was taken tells it: at a client that two tellings are owed
 abbrev pub copies : Role → Took → List Entry
-copies Server took = []
-copies Client Used = Owed 2 ∷ []
-copies Client (Ignored why) = []
+copies role Used = tellings role
+copies role (Ignored why) = []
 
 -- What a call of an open link tells its machine: all but openings, at the link's own moments.
 abbrev pub reaches : OpenSettings → Trace Entry → Entry → List Entry

@@ -1,16 +1,19 @@
 -- What a link stands for.
-use Rattle.std.specs.Prelude.{◌≡◌, ℕ, ◌≤◌, nat_lt, List, [], length, if◌then◌else◌, Option, Some, None}
+use Rattle.std.specs.Prelude.{◌≡◌, ℕ, ◌≤◌, ◌<◌, ◌&&◌, ◌||◌, Bool, true, false, not, max, is_some, nat_lt, List, [], length, if◌then◌else◌, Option, Some, None}
 use Rattle.mt_base.specs.Trace.{Trace}
 use Rattle.mt_windows.specs.ArrivedView.{left_of}
+use Rattle.mt_windows.specs.declared.limits.TheConstants.{QUEUE}
 use Rattle.mt_windows.specs.SendingView.{queued_of}
 use Rattle.carrier.specs.declared.state.LinkState.{LinkState}
 use Rattle.carrier.specs.declared.state.LinkState.TheVariants.{Opening, Open, Closed}
-use Rattle.carrier.specs.Entries.{Entry, given}
+use Rattle.carrier.specs.Entries.{Entry, given, moment}
 use Rattle.udp1_core.specs.MachineView.{Machine, Stands, condition_of, layout_of}
 use Rattle.udp_open.specs.declared.agreement.Agreement.{Agreement}
-use Rattle.udp_open.specs.Handshake.{agreed, row}
+use Rattle.udp_open.specs.Handshake.{agreed, row, owed, closes}
 use Rattle.udp_open.specs.OpeningView.{Handshake, Follows}
-use Rattle.udp_open.specs.LinkTrace.{LinkFaithful, machine, layout_by}
+use Rattle.udp_open.specs.LinkTrace.{LinkFaithful, machine, layout_by, link_due}
+use Rattle.udp_open.specs.declared.settings.OpenSettings.{OpenSettings}
+use Rattle.carrier.specs.Due.{closes as machine_closes}
 
 -- what is kept: the opening, the bytes that were given while it opened, and the machine
 pub record Link : Type 0 where
@@ -31,7 +34,16 @@ pub record StandsLink (l : Link) (t : Trace Entry) : Type 0 where
   pub machine_is : StandsBy l t (agreed (l.opening).settings t)
   pub faithful : LinkFaithful (l.opening).settings t
 
+-- what is true of every link
+abbrev pub IsSoundLink : Link → Type 0
+IsSoundLink l = length l.early ≤ QUEUE
+
 -- ---- by what was agreed on
+
+abbrev pub is_closed_state : LinkState → Bool
+is_closed_state Opening = false
+is_closed_state Open = false
+is_closed_state (Closed expiries) = true
 
 -- what the link is
 abbrev pub condition_by : Link → Option Agreement → LinkState
@@ -56,3 +68,22 @@ load_by l (Some a) = queued_of ((l.core).sender).outbox
 
 abbrev pub load_in : Link → ℕ
 load_in l = load_by l (l.opening).agreement
+
+-- ---- when
+
+-- a poll at this moment, which is not before the last one, closes the link
+abbrev pub closes_by : OpenSettings → Trace Entry → Option Agreement → ℕ → Bool
+closes_by settings t None at = closes settings t at
+closes_by settings t (Some a) at =
+    not (nat_lt 0 (owed settings t)) && machine_closes (layout_by settings a) (machine settings t) at
+
+-- a poll at this moment sends a datagram or closes the link
+abbrev pub is_due_in : OpenSettings → Trace Entry → ℕ → Bool
+is_due_in settings t at = is_some (link_due settings t at) || closes_by settings t (agreed settings t) (max (moment t) at)
+
+-- The least moment, from the last one on, at which a poll sends a datagram or closes the link, if no
+-- other call comes; None where there is none.
+abbrev pub IsNextDueIn : OpenSettings → Trace Entry → Option ℕ → Type 0
+IsNextDueIn settings t None = (at : ℕ) → is_due_in settings t at ≡ false
+IsNextDueIn settings t (Some m) =
+    (moment t ≤ m) × (is_due_in settings t m ≡ true) × ((at : ℕ) → moment t ≤ at → at < m → is_due_in settings t at ≡ false)

@@ -12,12 +12,14 @@ mod agreement;
 mod flags;
 mod hearing;
 mod laws;
+mod link;
 mod opening;
 mod sending;
 mod settings;
 mod timer;
 
 pub use laws::{agreements_stay, both_agree, closed_for_good, openings_are_due};
+pub use link::UdpLink;
 pub use opening::{OpenEnd, Opening};
 pub use settings::{OpenSettings, hash_cookie};
 

@@ -1,6 +1,7 @@
 //! A link that opens, and then goes on as a machine.
 
-ghost use Rattle.std.specs.Prelude.{◌≡◌, ◌+◌, ◌<◌, ◌≤◌, ◌^◌, ◌++◌, ◌%◌, ◌==◌, [], ℕ, List, Option, Some, None, true, false, max, length, get_or, option_map, take, IfOk, IfSome};
+ghost use Rattle.std.specs.Prelude.{◌≡◌, ◌+◌, ◌<◌, ◌≤◌, ◌^◌, ◌++◌, ◌%◌, ◌==◌, [], ℕ, List, Option, Some, None, true, false, max, length, get_or, option_map, take, IfOk, IfSome, IsSome, OnOk, OnErr, nat_lt, nat_le, nat_eq, bit_and, is_some};
+ghost use Rattle.carrier.specs.States.{give_answer};
 ghost use Rattle.mt_base.specs.declared.kinds.Role.TheVariants.{Client as IsClient};
 ghost use Rattle.mt_base.specs.Trace.{Trace, Start, ◌▷◌};
 ghost use Rattle.mt_windows.specs.ArrivedView.{left_of};
@@ -11,8 +12,8 @@ ghost use Rattle.carrier.specs.declared.state.Reason.TheVariants as reason;
 ghost use Rattle.carrier.specs.Entries.{Entry, Gave, In, Polled, Owed};
 ghost use Rattle.udp1_core.specs.MachineView.{Stands, layout_of, link_layout, condition_of};
 ghost use Rattle.udp_open.specs.OpeningView.{IsOffered, end_of};
-ghost use Rattle.udp_open.specs.LinkTrace.{LinkFaithful, begins, with_entries, has_syn};
-ghost use Rattle.udp_open.specs.LinkView.{StandsLink, condition_in, left_in, load_in, IsNextDueIn};
+ghost use Rattle.udp_open.specs.LinkTrace.{LinkFaithful, begins, with_entries, has_syn, tellings};
+ghost use Rattle.udp_open.specs.LinkView.{StandsLink, condition_in, left_in, load_in, IsNextDueIn, is_closed_state};
 
 use crate::opening::{OpenEnd, Opening};
 use crate::settings::OpenSettings;
@@ -22,6 +23,9 @@ use mt_windows::QUEUE;
 use std::alloc::Global;
 use std::marker::Model;
 use udp1_core::Udp1Core;
+
+/// Expiries in a row that an opening survives.
+const EXPIRIES: u32 = 16;
 
 /// A reliable link over UDP: it opens by the handshake of MS-RDPEUDP section 3.1.5.1, and then goes
 /// on in the version that its ends agreed on. Bytes that are given while it opens wait. It has no
@@ -86,14 +90,34 @@ impl UdpLink {
     }
 
     /// A client that took a SYN+ACK, or a copy of it, owes two tellings.
-    fn owe_tellings(&mut self) {
+    fn owe_tellings(&mut self)
+        ensures stands { (t : Trace Entry) → Stands self.old.core t →
+            Stands self.new.core (with_entries t (tellings self.old.opening.settings.role)) }
+        ensures layout { layout_of self.new.core ≡ layout_of self.old.core }
+        ensures left { left_of self.new.core.receiver.inbox ≡ left_of self.old.core.receiver.inbox }
+        ensures queued { queued_of self.new.core.sender.outbox ≡ queued_of self.old.core.sender.outbox }
+        ensures state { condition_of self.new.core ≡ condition_of self.old.core }
+        ensures opening { self.new.opening ≡ self.old.opening }
+        ensures early { self.new.early ≡ self.old.early }
+    {
         if self.opening.role() == Role::Client {
             self.core.owe(2);
         }
     }
 
     /// Takes a datagram while the link opens.
-    fn input_opening(&mut self, now: u64, datagram: &[u8]) -> Took {
+    fn input_opening(&mut self, now: u64, datagram: &[u8]) -> Took
+        requires moment { now < 2 ^ 62 }
+        requires opens { self.old.opening.agreement ≡ None }
+        ensures trace { (t : Trace Entry) → StandsLink self.old t →
+            StandsLink self.new (t ▷ In now datagram.now result) }
+        ensures settings { self.new.opening.settings ≡ self.old.opening.settings }
+        ensures left { left_in self.new ≡ [] }
+        ensures load { load_in self.new ≤ load_in self.old }
+        ensures stays_closed { (e : ℕ) → condition_in self.old ≡ IsClosed e →
+            (condition_in self.new ≡ IsClosed e) × (result ≡ Ignored reason.LinkClosed) }
+        ensures stays_open { (e : ℕ) → condition_in self.new ≡ IsClosed e → condition_in self.old ≡ IsClosed e }
+    {
         let took = self.opening.input(now, datagram);
         if let OpenEnd::Agreed {
             version,
@@ -106,7 +130,18 @@ impl UdpLink {
     }
 
     /// Takes a datagram where the link is open.
-    fn input_open(&mut self, now: u64, datagram: &[u8]) -> Took {
+    fn input_open(&mut self, now: u64, datagram: &[u8]) -> Took
+        requires moment { now < 2 ^ 62 }
+        requires opens { IsSome self.old.opening.agreement }
+        ensures trace { (t : Trace Entry) → StandsLink self.old t →
+            StandsLink self.new (t ▷ In now datagram.now result) }
+        ensures settings { self.new.opening.settings ≡ self.old.opening.settings }
+        ensures left { (more : List ℕ) × (left_in self.new ≡ left_in self.old ++ more) }
+        ensures load { load_in self.new ≤ load_in self.old }
+        ensures stays_closed { (e : ℕ) → condition_in self.old ≡ IsClosed e →
+            (condition_in self.new ≡ IsClosed e) × (result ≡ Ignored reason.LinkClosed) }
+        ensures stays_open { (e : ℕ) → condition_in self.new ≡ IsClosed e → condition_in self.old ≡ IsClosed e }
+    {
         if self.is_closed() {
             self.opening.pass(now);
             return Took::Ignored(Reason::LinkClosed);
@@ -123,7 +158,18 @@ impl UdpLink {
     }
 
     /// Sends where the link is open.
-    fn poll_open(&mut self, now: u64, out: &mut [u8; 1232]) -> Option<usize> {
+    fn poll_open(&mut self, now: u64, out: &mut [u8; 1232]) -> Option<usize>
+        requires moment { now < 2 ^ 62 }
+        requires opens { IsSome self.old.opening.agreement }
+        ensures bound { IfSome result (λ n. n ≤ 1232) }
+        ensures trace { (t : Trace Entry) → StandsLink self.old t →
+            StandsLink self.new (t ▷ Polled now (option_map (λ n. take n out.new) result)) }
+        ensures settings { self.new.opening.settings ≡ self.old.opening.settings }
+        ensures left { left_in self.new ≡ left_in self.old }
+        ensures load { load_in self.new ≤ load_in self.old }
+        ensures stays_closed { (e : ℕ) → condition_in self.old ≡ IsClosed e →
+            (condition_in self.new ≡ IsClosed e) × (result ≡ None) }
+    {
         if self.is_closed() {
             self.opening.pass(now);
             return None;
@@ -134,8 +180,61 @@ impl UdpLink {
         self.core.poll(self.opening.moment(), out)
     }
 
+    /// Keeps bytes while the link opens.
+    fn keep(&mut self, bytes: &[u8]) -> Result<(), GiveRefusal>
+        requires opens { self.old.opening.agreement ≡ None }
+        ensures answer { result ≡ give_answer (condition_in self.old) (load_in self.old) (length bytes.now) }
+        ensures trace { OnOk result ((t : Trace Entry) → StandsLink self.old t → StandsLink self.new (t ▷ Gave bytes.now)) }
+        ensures kept { OnOk result (self.new ≡ record self.old { early = self.old.early ++ bytes.now }) }
+        ensures unchanged { OnErr result (self.new ≡ self.old) }
+    {
+        let expiries = self.opening.expiries();
+        if expiries > EXPIRIES {
+            return Err(GiveRefusal::Closed { expiries });
+        }
+        let queued = self.early.len();
+        if queued + bytes.len() > QUEUE {
+            return Err(GiveRefusal::Full { queued });
+        }
+        match self.early.extend_from_slice(bytes) {
+            Ok(()) => Ok(()),
+            Err(_) => unreachable!(),
+        }
+    }
+
+    /// What the link is while it opens.
+    fn state_opening(&self) -> LinkState
+        requires { self.now.opening.agreement ≡ None }
+        ensures { result ≡ condition_in self.now }
+    {
+        let expiries = self.opening.expiries();
+        if expiries > EXPIRIES {
+            return LinkState::Closed { expiries };
+        }
+        LinkState::Opening
+    }
+
+    /// When something is sent or the link is closed, where the link is open.
+    fn next_open(&self) -> Option<u64>
+        requires { IsSome self.now.opening.agreement }
+        ensures { (t : Trace Entry) → StandsLink self.now t → IsNextDueIn self.now.opening.settings t result }
+    {
+        if self.is_closed() {
+            return None;
+        }
+        if let Some(due) = self.opening.next_due() {
+            return Some(due);
+        }
+        match self.core.next_due() {
+            Some(due) => Some(due.max(self.opening.moment())),
+            None => None,
+        }
+    }
+
     /// Whether the machine of an open link is closed.
-    fn is_closed(&self) -> bool {
+    fn is_closed(&self) -> bool
+        ensures { result ≡ is_closed_state (condition_of self.now.core) }
+    {
         matches!(self.core.state(), LinkState::Closed { .. })
     }
 }

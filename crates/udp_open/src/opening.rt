@@ -1,6 +1,6 @@
 //! The opening of a link.
 
-ghost use Rattle.std.specs.Prelude.{ℕ, ◌≡◌, ◌-◌, ◌<◌, ◌^◌, List, true, not, nat_lt, Option, if◌then◌else◌, Some, None, Ok, take, option_map, IfSome};
+ghost use Rattle.std.specs.Prelude.{ℕ, max, ◌≡◌, ◌-◌, ◌<◌, ◌^◌, List, true, not, nat_lt, Option, if◌then◌else◌, Some, None, Ok, take, option_map, IfSome};
 ghost use Rattle.mt_base.specs.declared.kinds.Role.TheVariants.{Client as IsClient};
 ghost use Rattle.mt_base.specs.Trace.{Trace, Start, ◌▷◌};
 ghost use Rattle.carrier.specs.declared.state.Took.{Took};
@@ -116,6 +116,36 @@ impl Opening {
             (Role::Server, Some(agreement)) => self.answer(agreement, out),
             _ => None,
         }
+    }
+
+    /// Lets the time pass up to this moment, which is below 2^62.
+    pub(crate) fn pass(&mut self, now: u64)
+        requires { now < 2 ^ 62 }
+        ensures { self.new ≡ record self.old { moment = max self.old.moment now } }
+    {
+        self.moment = self.moment.max(now);
+    }
+
+    /// The last moment.
+    pub(crate) fn moment(&self) -> u64
+        ensures value { result ≡ self.now.moment }
+        ensures bound { result < 2 ^ 62 }
+    {
+        self.moment
+    }
+
+    /// Which end opens the link.
+    pub(crate) fn role(&self) -> Role
+        ensures { result ≡ self.now.settings.role }
+    {
+        self.settings.role
+    }
+
+    /// The initial number of this end.
+    pub(crate) fn initial(&self) -> u32
+        ensures { result ≡ self.now.settings.initial }
+    {
+        self.settings.initial
     }
 
     /// Keeps what the ends agreed on. A server owes one SYN+ACK more.
