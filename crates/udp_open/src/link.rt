@@ -39,7 +39,7 @@ pub struct UdpLink {
 
 impl Model for UdpLink {
     ghost use Rattle.std.specs.Prelude.{◌≤◌};
-    ghost use Rattle.std.specs.Global.{vec_capacity};
+    ghost use Rattle.std.specs.Vec.{vec_capacity};
     ghost use Rattle.mt_windows.specs.declared.limits.TheConstants.{QUEUE};
     ghost use Rattle.udp_open.specs.LinkView.{Link, IsSoundLink};
 

@@ -225,8 +225,9 @@ impl Opening {
 
     /// What the ends agreed on.
     pub fn end(&self) -> OpenEnd
-        ensures { (t : Trace Entry) → Follows self.now t →
+        ensures trace { (t : Trace Entry) → Follows self.now t →
             result ≡ end_of (agreed self.now.settings t) }
+        ensures value { result ≡ end_of self.now.agreement }
     {
         match self.agreement {
             Some(agreement) => OpenEnd::Agreed {
