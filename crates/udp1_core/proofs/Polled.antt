@@ -5,15 +5,15 @@ use Rattle.std.proofs.lemmas.Bool.{cases_lt}
 use Rattle.std.proofs.lemmas.Bool.Decides.{nat_tests}
 use Rattle.mt_base.specs.Trace.{Trace, ◌▷◌}
 use Rattle.mt_windows.specs.Sending.Act.{Cut, Resent}
-use Rattle.mt_windows.specs.Sending.{Act, Limits, cuts, is_open, least, or_else, settled}
+use Rattle.mt_windows.specs.Sending.{Act, cuts, is_open, least, or_else, settled}
 use Rattle.carrier.specs.Entries.{Entry, Polled, moment, pulled}
 use Rattle.carrier.specs.Layout.{Layout, Datagram, Shows, Telling}
 use Rattle.carrier.specs.LayoutLaw.{shown_of, load_shown, telling_shown}
 use Rattle.carrier.specs.Receiving.{accepted, floor, owed, peer_window, is_telling}
 use Rattle.carrier.specs.Sending.{Timer, acts, timer, timer_polled, sends, sends_load, is_waiting, is_over, expiry}
-use Rattle.carrier.specs.Due.{due, meant, meant_at}
-use Rattle.udp1_core.specs.ReceiverView.{Receiver, Hears}
-use Rattle.udp1_core.specs.SenderView.{Sender, Speaks, timer_at, timer_begun}
+use Rattle.carrier.specs.Due.{meant, meant_at}
+use Rattle.udp1_core.specs.ReceiverView.{Hears}
+use Rattle.udp1_core.specs.SenderView.{Speaks, timer_at, timer_begun}
 use Rattle.udp1_core.specs.MachineView.{Machine, StandsIn}
 use Rattle.udp1_core.proofs.Steps.{polls, polled_same}
 
@@ -26,10 +26,12 @@ least_there f (suc n) k less is = by_place (λ below. least_there f n k below is
   first : (x y : Option ℕ) → is_some x ≡ true → is_some (or_else x y) ≡ true
   first None y h = absurd (cc)
   first (Some a) y h = refl
+
   second : (x : Option ℕ) (b : Bool) → b ≡ true → is_some (or_else x (cond b (Some n) None)) ≡ true
   second None true h = refl
   second None false h = absurd (cc)
   second (Some a) b h = refl
+
   by_place : (k < n → is_some (least f n) ≡ true) → (k < n) ⊎ (n ≤ k) → is_some (or_else (least f n) (cond (f n) (Some n) None)) ≡ true
   by_place found (inl below) = first (least f n) _ (found below)
   by_place found (inr above) =
@@ -49,8 +51,10 @@ pub timer_cut : (l : Layout) (tm : Timer) (a : Trace Act) (at : ℕ) → is_wait
 timer_cut l tm a at waits = by_cases (is_over l tm) (is_waiting l a) (leb (expiry l tm) at) (is_waiting l (a ▷ Cut)) waits where
   counted : Timer
   counted = record { start = at; expiries = tm.expiries + 1 }
+
   begun : Timer → Timer
   begun x = record { start = at; expiries = x.expiries }
+
   by_cases : (over waiting late after : Bool) → after ≡ true
       → cond (not over && (waiting && late)) counted (cond (not waiting && after) (begun tm) tm)
       ≡ cond waiting (cond (not over && (waiting && late)) counted tm) (begun (cond (not over && (waiting && late)) counted tm))
@@ -89,8 +93,8 @@ module _ (l : Layout) (m n : Machine) (t : Trace Entry) (now : ℕ) (moment_is :
       → Speaks n.sender (acts l (t ▷ Polled now out)) (peer_window l t) (timer l (t ▷ Polled now out))
   speaks_moved out after tm same is speaks =
       subst (λ a. Speaks n.sender a (peer_window l t) (timer_polled l (timer l t) (acts l t) a (max (moment t) now))) (sym same)
-          (subst (λ k. Speaks n.sender after (peer_window l t) (timer_polled l (timer l t) (acts l t) after k)) at_is
-          (subst (Speaks n.sender after (peer_window l t)) (sym is) speaks))
+      (subst (λ k. Speaks n.sender after (peer_window l t) (timer_polled l (timer l t) (acts l t) after k)) at_is
+      (subst (Speaks n.sender after (peer_window l t)) (sym is) speaks))
 
   -- nothing is sent
   pub sends_none : meant_at l t n.moment ≡ None

@@ -1,5 +1,5 @@
 -- What a poll of the first machine sends, and what it then stands for.
-use Rattle.std.proofs.Common.{◌≡◌, ℕ, ◌+◌, ◌-◌, ◌*◌, ◌%◌, ◌<◌, ◌≤◌, Bool, true, false, ◌&&◌, ◌||◌, eqb, ltb, leb, cond, max, List, [], length, Option, Some, None, is_some, unwrap_or, refl, sym, ap, ◌∙◌, subst, arith}
+use Rattle.std.proofs.Common.{◌≡◌, ℕ, ◌+◌, ◌-◌, ◌%◌, ◌<◌, ◌≤◌, Bool, true, false, ◌&&◌, ◌||◌, eqb, ltb, leb, cond, max, List, [], length, Option, Some, None, is_some, unwrap_or, refl, sym, ap, ◌∙◌, subst, arith}
 use Rattle.std.specs.Prelude.{if◌then◌else◌}
 use Rattle.std.proofs.lemmas.Bool.{and_parts}
 use Rattle.std.proofs.lemmas.Bool.Decides.{nat_tests}
@@ -11,7 +11,7 @@ use Rattle.mt_windows.specs.Sending.{Act, cuts, lowest_or_next, may_cut, passed_
 use Rattle.mt_windows.specs.FlightView.{slot_at}
 use Rattle.mt_windows.specs.SendingView.{Outbox, Sends, limits, is_unsettled}
 use Rattle.carrier.specs.Entries.{Entry, Polled, pulled}
-use Rattle.carrier.specs.Layout.{Layout, Datagram, Carried}
+use Rattle.carrier.specs.Layout.{Layout, Datagram}
 use Rattle.carrier.specs.LayoutLaw.{IsCarried}
 use Rattle.carrier.specs.Receiving.{accepted, floor, owed, peer_window, received}
 use Rattle.carrier.specs.Sending.{acts, timer, expires, is_closed, sends_part}
@@ -43,18 +43,20 @@ pub meant_by : (l : Layout) (t : Trace Entry) (at : ℕ) (choice : Choice)
 meant_by l t at choice is =
     subst (λ c. MeantBy l t at c (meant_at l t at)) (sym is)
     (by_cases (is_closed l t || closes l t at) (expires l (timer l t) a at && may_send l a) (is_some over && may_send l a) (may_cut l.bounds.windows l.own a (peer_window l t))) where
-  a : Trace Act
-  a = acts l t
-  over : Option ℕ
-  over = passed_over l.bounds.windows a
-  by_cases : (ended expired passed cut : Bool) → MeantBy l t at
-      (cond ended Silent (cond expired (Again (l.own + lowest_or_next l.bounds.windows a)) (cond passed (Again (l.own + unwrap_or over 0)) (cond cut Fresh Telling))))
-      (cond ended None (cond expired (Some (again l t (lowest_or_next l.bounds.windows a))) (cond passed (Some (again l t (unwrap_or over 0))) (cond cut (Some (fresh l t)) (bare l t at)))))
-  by_cases true expired passed cut = refl
-  by_cases false true passed cut = (lowest_or_next l.bounds.windows a, refl, refl)
-  by_cases false false true cut = (unwrap_or over 0, refl, refl)
-  by_cases false false false true = refl
-  by_cases false false false false = refl
+      a : Trace Act
+      a = acts l t
+
+      over : Option ℕ
+      over = passed_over l.bounds.windows a
+
+      by_cases : (ended expired passed cut : Bool) → MeantBy l t at
+          (cond ended Silent (cond expired (Again (l.own + lowest_or_next l.bounds.windows a)) (cond passed (Again (l.own + unwrap_or over 0)) (cond cut Fresh Telling))))
+          (cond ended None (cond expired (Some (again l t (lowest_or_next l.bounds.windows a))) (cond passed (Some (again l t (unwrap_or over 0))) (cond cut (Some (fresh l t)) (bare l t at)))))
+      by_cases true expired passed cut = refl
+      by_cases false true passed cut = (lowest_or_next l.bounds.windows a, refl, refl)
+      by_cases false false true cut = (unwrap_or over 0, refl, refl)
+      by_cases false false false true = refl
+      by_cases false false false false = refl
 
 -- ---- numbers that are read back
 
@@ -108,8 +110,8 @@ module _ (wait delay own peer : ℕ) (m n : Machine) (t : Trace Entry) (now : �
       spells
       (read_back wait delay own peer (received l t) (floor l t) tells None (Some (fresh_load own a)) carried)
       number (timer_cut l (timer l t) a n.moment (waits_cut l a new)) speaks hears where
-    same_number : (k : ℕ) → eqb k k ≡ true
-    same_number k = grind (arith, nat_tests)
+        same_number : (k : ℕ) → eqb k k ≡ true
+        same_number k = grind (arith, nat_tests)
 
   -- a part again
   pub sends_again : (p : ℕ) (out : List ℕ) → meant_at l t n.moment ≡ Some (again l t p)
@@ -143,6 +145,7 @@ module _ (wait delay own peer : ℕ) (m n : Machine) (t : Trace Entry) (now : �
   tells_alone out means spells speaks hears = by_case (is_pressing l (owed l t) n.moment) means spells hears where
     d : Datagram
     d = telling_with l t None None true
+
     by_case : (b : Bool) → meant_at l t n.moment ≡ cond b (Some d) None
         → out ≡ cond b (Some (spelled (packet_with (head_of peer (accepted l t) (floor l t) (owed l t) None None)))) None
         → Hears n.receiver (accepted l t) (length (pulled t)) (floor l t) (cond b [] (owed l t))

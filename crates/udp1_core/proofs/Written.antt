@@ -1,5 +1,5 @@
 -- What stands at the front of a buffer after a datagram was written to it.
-use Rattle.std.proofs.Common.{◌≡◌, ℕ, zero, suc, ◌+◌, ◌-◌, ◌<◌, ◌≤◌, Bool, true, false, List, [], ◌∷◌, ◌++◌, All, length, take, drop, get_or, if◌then◌else◌, Option, Some, None, sym, ap, ap₂, ◌∙◌, subst, arith, length-take}
+use Rattle.std.proofs.Common.{◌≡◌, ℕ, ◌+◌, ◌-◌, ◌<◌, ◌≤◌, Bool, true, false, List, ◌++◌, All, length, take, drop, if◌then◌else◌, Option, Some, None, sym, ap, ap₂, ◌∙◌, subst, arith, length-take}
 use Rattle.std.proofs.Math.Seq.{take-append_seam}
 use Rattle.mt_windows.specs.Arrived.{Parts}
 use Rattle.carrier.specs.Layout.{Carried}

@@ -1,6 +1,6 @@
 //! The machine.
 
-ghost use Rattle.std.specs.Prelude.{⊤, ◌≡◌, ◌⊎◌, ◌+◌, ◌-◌, ◌<◌, ◌≤◌, ◌^◌, ◌++◌, ◌∷◌, [], ◌==◌, ℕ, List, Some, None, true, if◌then◌else◌, length, take, drop, IfOk, IfSome, option_map, All};
+ghost use Rattle.std.specs.Prelude.{◌≡◌, ◌⊎◌, ◌+◌, ◌-◌, ◌<◌, ◌≤◌, ◌^◌, ◌++◌, ◌∷◌, [], ◌==◌, ℕ, List, Some, None, true, if◌then◌else◌, length, take, drop, IfOk, IfSome, option_map, All, ◌↔◌, min, OnOk, OnErr};
 ghost use Rattle.mt_base.specs.Trace.{Trace, Start, ◌▷◌};
 ghost use Rattle.mt_windows.specs.Arrived.{Parts};
 ghost use Rattle.mt_windows.specs.ArrivedView.{left_of};
@@ -8,7 +8,7 @@ ghost use Rattle.mt_windows.specs.Sending.Act.{Cut, Resent};
 ghost use Rattle.mt_windows.specs.Sending.{Act, cuts, lowest_or_next};
 ghost use Rattle.mt_windows.specs.SendingView.{limits, queued_of, is_unsettled, reach_of, next_transmission, may_cut_of};
 ghost use Rattle.udp1_packets.specs.Layout.{spelled};
-ghost use Rattle.carrier.specs.Entries.{Entry, In, Polled, Owed};
+ghost use Rattle.carrier.specs.Entries.{Entry, Gave, In, Polled, Pulled, Owed};
 ghost use Rattle.carrier.specs.Layout.{Layout, Received, Shown};
 ghost use Rattle.carrier.specs.Receiving.{receives, owes, floor_shown};
 ghost use Rattle.carrier.specs.Sending.{Timer, hears, timer_told};
@@ -19,7 +19,10 @@ ghost use Rattle.udp1_core.specs.FirstLayout.{packet_with};
 ghost use Rattle.udp1_core.specs.ReceiverView.{Hears, head_of};
 ghost use Rattle.udp1_core.specs.SenderView.{Speaks, timer_begun};
 ghost use Rattle.udp1_core.specs.MachineView.{Stands, layout_of, link_layout, condition_of, carries, owed_after, fresh_load, again_load, earlier};
-ghost use Rattle.carrier.specs.declared.state.LinkState.TheVariants.{Open};
+ghost use Rattle.carrier.specs.declared.state.LinkState.TheVariants.{Open, Closed as IsClosed};
+ghost use Rattle.carrier.specs.declared.state.Took.TheVariants.{Ignored};
+ghost use Rattle.carrier.specs.declared.state.Reason.TheVariants as reason;
+ghost use Rattle.carrier.specs.States.{give_answer};
 ghost use Rattle.udp1_core.specs.ContentsView.{Shows, IsFit};
 
 use crate::choice::Choice;
@@ -47,7 +50,7 @@ pub struct Udp1Core {
 }
 
 impl Model for Udp1Core {
-    ghost use Rattle.std.specs.Prelude.{⊤, ◌<◌, ◌^◌};
+    ghost use Rattle.std.specs.Prelude.{◌<◌, ◌^◌};
     ghost use Rattle.udp1_core.specs.MachineView.{Machine};
 
     ghost Value = { Machine };
@@ -272,9 +275,19 @@ impl Carrier for Udp1Core {
 
     ghost condition = { λ c. condition_of c };
 
-    ghost next = { λ c t m. ⊤ };
+    ghost next = { λ c t m. IsNextDue (layout_of c) t m };
 
-    fn input(&mut self, now: u64, datagram: &[u8]) -> Took {
+    fn input(&mut self, now: u64, datagram: &[u8]) -> Took
+        requires moment { now < 2 ^ 62 }
+        ensures trace { (t : Trace Entry) → Stands self.old t → Stands self.new (t ▷ In now datagram.now result) }
+        ensures law { (t : Trace Entry) → Faithful (layout_of self.new) t ↔ Faithful (layout_of self.old) t }
+        ensures left { (more : List ℕ) × (left_of self.new.receiver.inbox ≡ left_of self.old.receiver.inbox ++ more) }
+        ensures load { queued_of self.new.sender.outbox ≤ queued_of self.old.sender.outbox }
+        ensures stays_closed { (e : ℕ) → condition_of self.old ≡ IsClosed e →
+            (condition_of self.new ≡ IsClosed e) × (result ≡ Ignored reason.LinkClosed) }
+        ensures stays_open { (e : ℕ) → condition_of self.new ≡ IsClosed e → condition_of self.old ≡ IsClosed e }
+        ensures layout { layout_of self.new ≡ layout_of self.old }
+    {
         self.moment = self.moment.max(now);
         if self.sender.is_closed() {
             return Took::Ignored(Reason::LinkClosed);
@@ -291,7 +304,18 @@ impl Carrier for Udp1Core {
         }
     }
 
-    fn poll(&mut self, now: u64, out: &mut [u8; 1232]) -> Option<usize> {
+    fn poll(&mut self, now: u64, out: &mut [u8; 1232]) -> Option<usize>
+        requires moment { now < 2 ^ 62 }
+        ensures bound { IfSome result (λ n. n ≤ 1232) }
+        ensures trace { (t : Trace Entry) → Stands self.old t →
+            Stands self.new (t ▷ Polled now (option_map (λ n. take n out.new) result)) }
+        ensures law { (t : Trace Entry) → Faithful (layout_of self.new) t ↔ Faithful (layout_of self.old) t }
+        ensures left { left_of self.new.receiver.inbox ≡ left_of self.old.receiver.inbox }
+        ensures load { queued_of self.new.sender.outbox ≤ queued_of self.old.sender.outbox }
+        ensures stays_closed { (e : ℕ) → condition_of self.old ≡ IsClosed e →
+            (condition_of self.new ≡ IsClosed e) × (result ≡ None) }
+        ensures layout { layout_of self.new ≡ layout_of self.old }
+    {
         self.moment = self.moment.max(now);
         match self.sender.choose(self.moment) {
             Choice::Silent => None,
@@ -301,7 +325,16 @@ impl Carrier for Udp1Core {
         }
     }
 
-    fn give(&mut self, bytes: &[u8]) -> Result<(), GiveRefusal> {
+    fn give(&mut self, bytes: &[u8]) -> Result<(), GiveRefusal>
+        ensures answer { result ≡ give_answer (condition_of self.old) (queued_of self.old.sender.outbox) (length bytes.now) }
+        ensures trace { OnOk result ((t : Trace Entry) → Stands self.old t → Stands self.new (t ▷ Gave bytes.now)) }
+        ensures law { (t : Trace Entry) → Faithful (layout_of self.new) t ↔ Faithful (layout_of self.old) t }
+        ensures left { left_of self.new.receiver.inbox ≡ left_of self.old.receiver.inbox }
+        ensures load { queued_of self.new.sender.outbox ≤ queued_of self.old.sender.outbox + length bytes.now }
+        ensures state { condition_of self.new ≡ condition_of self.old }
+        ensures unchanged { OnErr result (self.new ≡ self.old) }
+        ensures layout { layout_of self.new ≡ layout_of self.old }
+    {
         if self.sender.is_closed() {
             return Err(GiveRefusal::Closed {
                 expiries: self.sender.expiries(),
@@ -315,15 +348,30 @@ impl Carrier for Udp1Core {
         }
     }
 
-    fn pull(&mut self, out: &mut [u8]) -> usize {
+    fn pull(&mut self, out: &mut [u8]) -> usize
+        ensures count { result ≡ min (length out.old) (length (left_of self.old.receiver.inbox)) }
+        ensures bytes { take result out.new ≡ take result (left_of self.old.receiver.inbox) }
+        ensures rest { drop result out.new ≡ drop result out.old }
+        ensures left { left_of self.new.receiver.inbox ≡ drop result (left_of self.old.receiver.inbox) }
+        ensures trace { (t : Trace Entry) → Stands self.old t →
+            Stands self.new (t ▷ Pulled (length out.old) (take result out.new)) }
+        ensures law { (t : Trace Entry) → Faithful (layout_of self.new) t ↔ Faithful (layout_of self.old) t }
+        ensures load { queued_of self.new.sender.outbox ≤ queued_of self.old.sender.outbox }
+        ensures state { condition_of self.new ≡ condition_of self.old }
+        ensures layout { layout_of self.new ≡ layout_of self.old }
+    {
         self.receiver.pull(out)
     }
 
-    fn queued(&self) -> usize {
+    fn queued(&self) -> usize
+        ensures { result ≡ queued_of self.now.sender.outbox }
+    {
         self.sender.queued()
     }
 
-    fn next_due(&self) -> Option<u64> {
+    fn next_due(&self) -> Option<u64>
+        ensures { (t : Trace Entry) → Stands self.now t → IsNextDue (layout_of self.now) t result }
+    {
         if self.sender.is_closed() {
             return None;
         }
@@ -336,7 +384,9 @@ impl Carrier for Udp1Core {
         }
     }
 
-    fn state(&self) -> LinkState {
+    fn state(&self) -> LinkState
+        ensures { result ≡ condition_of self.now }
+    {
         if self.sender.is_closed() {
             LinkState::Closed {
                 expiries: self.sender.expiries(),

@@ -25,17 +25,17 @@ returns-clause-bytes c p acts told timer parts n floor owed part_is speaks hears
     let above = Some (m.sender.own + lowest_or_next limits acts) in
     let here = part_is ∙ ap (λ m. m.sender.own + p) (sym c.self.view_is) in
     subst (λ m. take c.put_behind.result c.put_behind.new.out ≡ spelled (packet_with (carries m.receiver.peer parts floor owed (Some (m.sender.own + lowest_or_next limits acts)) (again_load m.sender.own p acts)))) c.self.view_is
-        (part_written m.receiver.peer parts floor owed above load (record { part = c.args.part; transmission = c.next_numbers.result.transmission }) (Some c.floor.result) (take c.resend-length.result c.resend-length.new.out) c.args.out.now c.head-head.new.out c.put_behind.new.out c.head-head.result c.put_behind.result
-            (ap₂ numbers_of here (ap (λ n. n.transmission) (c.next_numbers.ensures acts told timer says))) (ap Some (c.floor.ensures acts told timer says)) (c.head-head.ensures.bytes parts n floor owed now)
-            ((c.resend-length.ensures.bytes acts told timer says).1 ∙ ap (piece limits acts) (place c p part_is)) c.put_behind.ensures.bytes)
+    (part_written m.receiver.peer parts floor owed above load (record { part = c.args.part; transmission = c.next_numbers.result.transmission }) (Some c.floor.result) (take c.resend-length.result c.resend-length.new.out) c.args.out.now c.head-head.new.out c.put_behind.new.out c.head-head.result c.put_behind.result
+    (ap₂ numbers_of here (ap (λ n. n.transmission) (c.next_numbers.ensures acts told timer says))) (ap Some (c.floor.ensures acts told timer says)) (c.head-head.ensures.bytes parts n floor owed now)
+    ((c.resend-length.ensures.bytes acts told timer says).1 ∙ ap (piece limits acts) (place c p part_is)) c.put_behind.ensures.bytes)
 
 pub returns-clause-carried : goal.returns-clause-carried
 returns-clause-carried c p acts told timer part_is speaks =
     let m = c.self.inside in
     let says = subst (λ m. Speaks m.sender acts told timer) (sym c.self.view_is) speaks in
     subst (λ m. IsCarried (layout_of m) (again_load m.sender.own p acts)) c.self.view_is
-        (front_carried m.sender.wait m.receiver.delay m.sender.own m.receiver.peer (again_load m.sender.own p acts) c.resend-length.result c.resend-length.new.out c.resend-length.ensures.fits c.put_behind.ensures.good
-            ((c.resend-length.ensures.bytes acts told timer says).1 ∙ ap (piece limits acts) (place c p part_is)))
+    (front_carried m.sender.wait m.receiver.delay m.sender.own m.receiver.peer (again_load m.sender.own p acts) c.resend-length.result c.resend-length.new.out c.resend-length.ensures.fits c.put_behind.ensures.good
+    ((c.resend-length.ensures.bytes acts told timer says).1 ∙ ap (piece limits acts) (place c p part_is)))
 
 pub returns-clause-sends : goal.returns-clause-sends
 returns-clause-sends c p acts told timer part_is speaks =

@@ -14,4 +14,4 @@ returns-clause-bytes c parts n floor owed hears =
     let text = spelled (packet_with (head_of m.receiver.peer parts floor owed None None)) in
     let written = c.head.ensures.bytes parts n floor owed now in
     subst (λ m. Some (take c.head.result c.head.new.out) ≡ (if is_pressing (layout_of m) owed m.moment then Some (spelled (packet_with (head_of m.receiver.peer parts floor owed None None))) else None)) c.self.view_is
-        (told_where text c.head.result c.head.new.out _ (sym (c.is_pressing.ensures m.sender.wait m.sender.own parts n floor owed now) ∙ c.if-not-is_pressing.false) (front_is text (drop c.head.result c.args.out.now) c.head.new.out c.head.result written.0 written.1))
+    (told_where text c.head.result c.head.new.out _ (sym (c.is_pressing.ensures m.sender.wait m.sender.own parts n floor owed now) ∙ c.if-not-is_pressing.false) (front_is text (drop c.head.result c.args.out.now) c.head.new.out c.head.result written.0 written.1))
