@@ -3,3 +3,4 @@ pub mod OpeningPackets
 pub mod Heard
 pub mod Agreeing
 pub mod Staying
+pub mod Links

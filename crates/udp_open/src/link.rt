@@ -100,8 +100,9 @@ impl UdpLink {
         ensures opening { self.new.opening ≡ self.old.opening }
         ensures early { self.new.early ≡ self.old.early }
     {
-        if self.opening.role() == Role::Client {
-            self.core.owe(2);
+        match self.opening.role() {
+            Role::Client => self.core.owe(2),
+            Role::Server => (),
         }
     }
 
@@ -142,13 +143,13 @@ impl UdpLink {
             (condition_in self.new ≡ IsClosed e) × (result ≡ Ignored reason.LinkClosed) }
         ensures stays_open { (e : ℕ) → condition_in self.new ≡ IsClosed e → condition_in self.old ≡ IsClosed e }
     {
-        if self.is_closed() {
-            self.opening.pass(now);
-            return Took::Ignored(Reason::LinkClosed);
-        }
         if !has_syn(datagram) {
             self.opening.pass(now);
             return self.core.input(self.opening.moment(), datagram);
+        }
+        if self.is_closed() {
+            self.opening.pass(now);
+            return Took::Ignored(Reason::LinkClosed);
         }
         let took = self.opening.input(now, datagram);
         if took == Took::Used {
@@ -170,14 +171,15 @@ impl UdpLink {
         ensures stays_closed { (e : ℕ) → condition_in self.old ≡ IsClosed e →
             (condition_in self.new ≡ IsClosed e) × (result ≡ None) }
     {
+        if !self.opening.owes() {
+            self.opening.pass(now);
+            return self.core.poll(self.opening.moment(), out);
+        }
         if self.is_closed() {
             self.opening.pass(now);
             return None;
         }
-        if let Some(length) = self.opening.poll(now, out) {
-            return Some(length);
-        }
-        self.core.poll(self.opening.moment(), out)
+        self.opening.poll(now, out)
     }
 
     /// Keeps bytes while the link opens.
