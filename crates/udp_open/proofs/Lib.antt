@@ -4,3 +4,4 @@ pub mod Heard
 pub mod Agreeing
 pub mod Staying
 pub mod Links
+pub mod LinkSteps

@@ -120,12 +120,12 @@ impl UdpLink {
         ensures stays_open { (e : ℕ) → condition_in self.new ≡ IsClosed e → condition_in self.old ≡ IsClosed e }
     {
         let took = self.opening.input(now, datagram);
-        if let OpenEnd::Agreed {
-            version,
-            peer_initial,
-        } = self.opening.end()
-        {
-            self.begin(version, peer_initial);
+        match self.opening.end() {
+            OpenEnd::Waiting => (),
+            OpenEnd::Agreed {
+                version,
+                peer_initial,
+            } => self.begin(version, peer_initial),
         }
         took
     }
@@ -152,8 +152,9 @@ impl UdpLink {
             return Took::Ignored(Reason::LinkClosed);
         }
         let took = self.opening.input(now, datagram);
-        if took == Took::Used {
-            self.owe_tellings();
+        match took {
+            Took::Used => self.owe_tellings(),
+            Took::Ignored(_) => (),
         }
         took
     }

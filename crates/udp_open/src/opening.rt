@@ -10,6 +10,7 @@ ghost use Rattle.carrier.specs.Entries.{Entry, In, Polled};
 ghost use Rattle.carrier.specs.Receiving.{has_effect};
 ghost use Rattle.udp1_packets.specs.Layout.{spelled};
 ghost use Rattle.udp_open.specs.declared.agreement.Agreement.{Agreement};
+ghost use Rattle.udp_open.specs.declared.opening.OpenEnd.TheVariants.{Agreed as IsAgreed};
 ghost use Rattle.udp_open.specs.Handshake.{agreed, expiries, row, is_closed, asked, is_time, started, owed_by, syn_ack, opening_answered, opening_due, IsNextDue};
 ghost use Rattle.udp_open.specs.OpeningView.{IsOffered, IsTimer, Follows, StandsOpen, AnswersFirst, SendsFirst, end_of, after_asking, next_syn};
 
@@ -248,6 +249,7 @@ impl Opening {
         ensures trace { (t : Trace Entry) → Follows self.now t →
             result ≡ end_of (agreed self.now.settings t) }
         ensures value { result ≡ end_of self.now.agreement }
+        ensures offered { (version peer : ℕ) → result ≡ IsAgreed version peer → IsOffered version }
     {
         match self.agreement {
             Some(agreement) => OpenEnd::Agreed {
