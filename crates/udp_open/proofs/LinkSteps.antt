@@ -51,6 +51,10 @@ some_is : (o : Option Agreement) → IsSome o → (a : Agreement) × (o ≡ Some
 some_is None h = cc
 some_is (Some a) h = (a, refl)
 
+pub none_at : (o : Option Agreement) → end_of o ≡ Waiting → o ≡ None
+none_at None h = refl
+none_at (Some a) h = cc
+
 -- ---- while a link opens
 
 -- bytes that are given wait
@@ -97,15 +101,11 @@ pub hears_waiting : (l : Link) (o : Handshake) (t : Trace Entry) (now : ℕ) (d 
 hears_waiting l o t now d took none same ends follows is h =
     let s = (l.opening).settings in
     let at : agreed s t ≡ None = sym (h.follows).agreement_is ∙ none in
-    let still : o.agreement ≡ None = waiting o.agreement ends in
+    let still : o.agreement ≡ None = none_at o.agreement ends in
     let early = keeps_early s t at h.faithful in
     waits (record l { opening = o }) s t (In now d took) same follows
         (ap (λ x. agreed x (t ▷ In now d took)) (sym same) ∙ sym follows.agreement_is ∙ still)
         (subst (λ x. took ≡ answered_by s t x d) (sym at) is) h.faithful (subst (λ o. StandsBy l t o) at h.machine_is) early.0 early.1
-  where
-    waiting : (o : Option Agreement) → end_of o ≡ Waiting → o ≡ None
-    waiting None h = refl
-    waiting (Some a) h = cc
 
 -- it takes that by which they agree, and its machine begins
 pub hears_agreeing : (l n : Link) (t : Trace Entry) (now : ℕ) (d : List ℕ) (took : Took) (version peer : ℕ) → (l.opening).agreement ≡ None
