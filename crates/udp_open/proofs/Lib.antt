@@ -5,3 +5,4 @@ pub mod Agreeing
 pub mod Staying
 pub mod Links
 pub mod LinkSteps
+pub mod LinkDues

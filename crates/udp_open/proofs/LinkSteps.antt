@@ -47,7 +47,7 @@ pub sends_same : (out : Option (List ℕ)) → SendsFirst out out
 sends_same None = tt
 sends_same (Some bytes) = refl
 
-some_is : (o : Option Agreement) → IsSome o → (a : Agreement) × (o ≡ Some a)
+pub some_is : (o : Option Agreement) → IsSome o → (a : Agreement) × (o ≡ Some a)
 some_is None h = cc
 some_is (Some a) h = (a, refl)
 
@@ -66,9 +66,9 @@ keeps l t bytes early none is short good h =
     let was : l.early ≡ given t = subst (λ o. StandsBy l t o) at h.machine_is in
     let all : early ≡ given t ++ bytes = is ∙ ap (λ x. x ++ bytes) was in
     waits (record l { early = early }) (l.opening).settings t (Gave bytes) refl
-        (record { moment_is = f.moment_is; agreement_is = f.agreement_is; owed_is = f.owed_is; timer_is = f.timer_is })
-        at tt h.faithful all (subst (λ x. length x ≤ QUEUE) all short)
-        (All-append (λ b. b < 256) (given t) bytes (keeps_early (l.opening).settings t at h.faithful).1 good)
+    (record { moment_is = f.moment_is; agreement_is = f.agreement_is; owed_is = f.owed_is; timer_is = f.timer_is })
+    at tt h.faithful all (subst (λ x. length x ≤ QUEUE) all short)
+    (All-append (λ b. b < 256) (given t) bytes (keeps_early (l.opening).settings t at h.faithful).1 good)
 
 -- nothing is pulled
 pub pulls_none : (l : Link) (t : Trace Entry) (room : ℕ) → (l.opening).agreement ≡ None → StandsLink l t
@@ -78,8 +78,8 @@ pulls_none l t room none h =
     let at : agreed (l.opening).settings t ≡ None = sym f.agreement_is ∙ none in
     let early = keeps_early (l.opening).settings t at h.faithful in
     waits l (l.opening).settings t (Pulled room []) refl
-        (record { moment_is = f.moment_is; agreement_is = f.agreement_is; owed_is = f.owed_is; timer_is = f.timer_is })
-        at (rw at refl) h.faithful (subst (λ o. StandsBy l t o) at h.machine_is) early.0 early.1
+    (record { moment_is = f.moment_is; agreement_is = f.agreement_is; owed_is = f.owed_is; timer_is = f.timer_is })
+    at (rw at refl) h.faithful (subst (λ o. StandsBy l t o) at h.machine_is) early.0 early.1
 
 -- its opening sends
 pub polls_waiting : (l : Link) (o : Handshake) (t : Trace Entry) (now : ℕ) (out : Option (List ℕ)) → (l.opening).agreement ≡ None
@@ -91,7 +91,7 @@ polls_waiting l o t now out none same stays follows is h =
     let at : agreed s t ≡ None = sym (h.follows).agreement_is ∙ none in
     let early = keeps_early s t at h.faithful in
     waits (record l { opening = o }) s t (Polled now out) same follows at
-        (subst (λ x. out ≡ due_by s t x now) (sym at) is) h.faithful (subst (λ o. StandsBy l t o) at h.machine_is) early.0 early.1
+    (subst (λ x. out ≡ due_by s t x now) (sym at) is) h.faithful (subst (λ o. StandsBy l t o) at h.machine_is) early.0 early.1
 
 -- it takes nothing by which the ends agree
 pub hears_waiting : (l : Link) (o : Handshake) (t : Trace Entry) (now : ℕ) (d : List ℕ) (took : Took) → (l.opening).agreement ≡ None
@@ -104,8 +104,8 @@ hears_waiting l o t now d took none same ends follows is h =
     let still : o.agreement ≡ None = none_at o.agreement ends in
     let early = keeps_early s t at h.faithful in
     waits (record l { opening = o }) s t (In now d took) same follows
-        (ap (λ x. agreed x (t ▷ In now d took)) (sym same) ∙ sym follows.agreement_is ∙ still)
-        (subst (λ x. took ≡ answered_by s t x d) (sym at) is) h.faithful (subst (λ o. StandsBy l t o) at h.machine_is) early.0 early.1
+    (ap (λ x. agreed x (t ▷ In now d took)) (sym same) ∙ sym follows.agreement_is ∙ still)
+    (subst (λ x. took ≡ answered_by s t x d) (sym at) is) h.faithful (subst (λ o. StandsBy l t o) at h.machine_is) early.0 early.1
 
 -- it takes that by which they agree, and its machine begins
 pub hears_agreeing : (l n : Link) (t : Trace Entry) (now : ℕ) (d : List ℕ) (took : Took) (version peer : ℕ) → (l.opening).agreement ≡ None
@@ -122,11 +122,11 @@ hears_agreeing l n t now d took version peer none same ends follows is stands la
     let a = some.0 in
     let after : agreed s (t ▷ In now d took) ≡ Some a = ap (λ x. agreed x (t ▷ In now d took)) (sym same) ∙ sym follows.agreement_is ∙ some.1 in
     let trace : with_entries Start (begins s.role l.early) ≡ machine s (t ▷ In now d took) =
-        ap (λ x. with_entries Start (begins s.role x)) early ∙ sym (machine_begins s t (In now d took) a at after) in
+    ap (λ x. with_entries Start (begins s.role x)) early ∙ sym (machine_begins s t (In now d took) a at after) in
     opened n s t (In now d took) a same follows after
-        (subst (λ x. took ≡ answered_by s t x d) (sym at) is) h.faithful
-        (subst (λ x. Stands n.core x) trace stands)
-        (layout ∙ ap (λ x. link_layout s.initial x version) (sym some.3) ∙ ap (λ x. link_layout s.initial a.peer_initial x) (sym some.2))
+    (subst (λ x. took ≡ answered_by s t x d) (sym at) is) h.faithful
+    (subst (λ x. Stands n.core x) trace stands)
+    (layout ∙ ap (λ x. link_layout s.initial x version) (sym some.3) ∙ ap (λ x. link_layout s.initial a.peer_initial x) (sym some.2))
   where
     agreeing : (o : Option Agreement) → end_of o ≡ Agreed version peer → (a : Agreement) × (o ≡ Some a) × (a.version ≡ version) × (a.peer_initial ≡ peer)
     agreeing None h = cc
@@ -177,13 +177,13 @@ takes_in l m t now d took met good plain step same h =
     let at = subst (λ k. Stands m (machine s t ▷ In (max k now) d took)) (h.follows).moment_is (step (machine s t) b.stands) in
     let law = same ∙ b.law in
     let trace : machine s (t ▷ In now d took) ≡ machine s t ▷ In (max (moment t) now) d took =
-        machine_open s t (In now d took) a b.agreed_is
-        ∙ ap (λ x. with_entries (machine s t) (if x then copies s.role took else In (max (moment t) now) d took ∷ [])) plain in
+    machine_open s t (In now d took) a b.agreed_is
+    ∙ ap (λ x. with_entries (machine s t) (if x then copies s.role took else In (max (moment t) now) d took ∷ [])) plain in
     let faithful : Faithful (layout_by s a) (machine s t ▷ In (max (moment t) now) d took) = subst (λ x. Faithful x (machine s t ▷ In (max (moment t) now) d took)) law at.faithful in
     let answer : took ≡ answered_by s t (Some a) d = faithful.0 ∙ sym (twice (is_closed (layout_by s a) (machine s t)) (has_syn d) (Ignored reason.LinkClosed) (opening_answered s t d) _ plain) in
     opened (record l { opening = record o { moment = max o.moment now }; core = m }) s t (In now d took) a refl follows (sym follows.agreement_is ∙ some.1)
-        (subst (λ x. took ≡ answered_by s t x d) (sym b.agreed_is) answer) h.faithful
-        (subst (λ x. Stands m x) (sym trace) at) law
+    (subst (λ x. took ≡ answered_by s t x d) (sym b.agreed_is) answer) h.faithful
+    (subst (λ x. Stands m x) (sym trace) at) law
 
 -- an opening that comes where the machine is closed
 pub ignores : (l : Link) (t : Trace Entry) (now : ℕ) (d : List ℕ) → IsSome (l.opening).agreement
@@ -199,13 +199,13 @@ ignores l t now d met set closed h =
     let b = before l t a some.1 h in
     let follows = ignores_in o t now d h.follows in
     let trace : machine s (t ▷ e) ≡ machine s t =
-        machine_open s t e a b.agreed_is
-        ∙ ap (λ x. with_entries (machine s t) (if x then copies s.role (Ignored reason.LinkClosed) else In (max (moment t) now) d (Ignored reason.LinkClosed) ∷ [])) set in
+    machine_open s t e a b.agreed_is
+    ∙ ap (λ x. with_entries (machine s t) (if x then copies s.role (Ignored reason.LinkClosed) else In (max (moment t) now) d (Ignored reason.LinkClosed) ∷ [])) set in
     let answer : Ignored reason.LinkClosed ≡ answered_by s t (Some a) d =
-        sym (first (is_closed (layout_by s a) (machine s t)) (Ignored reason.LinkClosed) _ (sym (closed_same l.core (machine s t) (layout_by s a) b.law b.stands) ∙ closed)) in
+    sym (first (is_closed (layout_by s a) (machine s t)) (Ignored reason.LinkClosed) _ (sym (closed_same l.core (machine s t) (layout_by s a) b.law b.stands) ∙ closed)) in
     opened (record l { opening = record o { moment = max o.moment now } }) s t e a refl follows (sym follows.agreement_is ∙ some.1)
-        (subst (λ x. Ignored reason.LinkClosed ≡ answered_by s t x d) (sym b.agreed_is) answer) h.faithful
-        (subst (λ x. Stands l.core x) (sym trace) b.stands) b.law
+    (subst (λ x. Ignored reason.LinkClosed ≡ answered_by s t x d) (sym b.agreed_is) answer) h.faithful
+    (subst (λ x. Stands l.core x) (sym trace) b.stands) b.law
 
 -- an opening that comes where it is open, and what its machine makes of that
 pub hears_open : (l n : Link) (t : Trace Entry) (now : ℕ) (d : List ℕ) (took : Took) → IsSome (l.opening).agreement
@@ -221,14 +221,14 @@ hears_open l n t now d took met set closed settings stays follows is step same h
     let a = some.0 in
     let b = before l t a some.1 h in
     let trace : machine s (t ▷ e) ≡ with_entries (machine s t) (copies s.role took) =
-        machine_open s t e a b.agreed_is
-        ∙ ap (λ x. with_entries (machine s t) (if x then copies s.role took else In (max (moment t) now) d took ∷ [])) set in
+    machine_open s t e a b.agreed_is
+    ∙ ap (λ x. with_entries (machine s t) (if x then copies s.role took else In (max (moment t) now) d took ∷ [])) set in
     let answer : took ≡ answered_by s t (Some a) d =
-        is ∙ sym (third (is_closed (layout_by s a) (machine s t)) (has_syn d) (Ignored reason.LinkClosed) (opening_answered s t d) _
-        (sym (closed_same l.core (machine s t) (layout_by s a) b.law b.stands) ∙ closed) set) in
+    is ∙ sym (third (is_closed (layout_by s a) (machine s t)) (has_syn d) (Ignored reason.LinkClosed) (opening_answered s t d) _
+    (sym (closed_same l.core (machine s t) (layout_by s a) b.law b.stands) ∙ closed) set) in
     opened n s t e a settings follows (ap (λ x. agreed x (t ▷ e)) (sym settings) ∙ sym follows.agreement_is ∙ stays a some.1)
-        (subst (λ x. took ≡ answered_by s t x d) (sym b.agreed_is) answer) h.faithful
-        (subst (λ x. Stands n.core x) (sym trace) (step (machine s t) b.stands)) (same ∙ b.law)
+    (subst (λ x. took ≡ answered_by s t x d) (sym b.agreed_is) answer) h.faithful
+    (subst (λ x. Stands n.core x) (sym trace) (step (machine s t) b.stands)) (same ∙ b.law)
 
 -- ---- polls of an open link
 
@@ -270,15 +270,15 @@ polls_machine l m t now out met none step same h =
     let at = subst (λ k. Stands m (machine s t ▷ Polled (max k now) out)) (h.follows).moment_is (step (machine s t) b.stands) in
     let law = same ∙ b.law in
     let trace : machine s (t ▷ e) ≡ machine s t ▷ Polled (max (moment t) now) out =
-        machine_open s t e a b.agreed_is
-        ∙ ap (λ x. with_entries (machine s t) (if x then [] else Polled (max (moment t) now) out ∷ [])) idle in
+    machine_open s t e a b.agreed_is
+    ∙ ap (λ x. with_entries (machine s t) (if x then [] else Polled (max (moment t) now) out ∷ [])) idle in
     let faithful : Faithful (layout_by s a) (machine s t ▷ Polled (max (moment t) now) out) = subst (λ x. Faithful x (machine s t ▷ Polled (max (moment t) now) out)) law at.faithful in
     let answer : out ≡ due_by s t (Some a) now =
-        faithful.0 ∙ sym (none_or (is_closed (layout_by s a) (machine s t)) (nat_lt 0 (owed s t)) (opening_due s t now) _
-        (closed_due (layout_by s a) (machine s t) (max (moment t) now)) idle) in
+    faithful.0 ∙ sym (none_or (is_closed (layout_by s a) (machine s t)) (nat_lt 0 (owed s t)) (opening_due s t now) _
+    (closed_due (layout_by s a) (machine s t) (max (moment t) now)) idle) in
     opened (record l { opening = record o { moment = max o.moment now }; core = m }) s t e a refl follows (sym follows.agreement_is ∙ some.1)
-        (subst (λ x. out ≡ due_by s t x now) (sym b.agreed_is) answer) h.faithful
-        (subst (λ x. Stands m x) (sym trace) at) law
+    (subst (λ x. out ≡ due_by s t x now) (sym b.agreed_is) answer) h.faithful
+    (subst (λ x. Stands m x) (sym trace) at) law
 
 -- a closed link sends nothing
 pub polls_closed : (l : Link) (t : Trace Entry) (now : ℕ) → IsSome (l.opening).agreement
@@ -295,13 +295,13 @@ polls_closed l t now met owes closed h =
     let busy : nat_lt 0 (owed s t) ≡ true = ap (nat_lt 0) (sym (h.follows).owed_is) ∙ owes in
     let follows = passes_poll o t now None a some.1 refl h.follows in
     let trace : machine s (t ▷ e) ≡ machine s t =
-        machine_open s t e a b.agreed_is
-        ∙ ap (λ x. with_entries (machine s t) (if x then [] else Polled (max (moment t) now) None ∷ [])) busy in
+    machine_open s t e a b.agreed_is
+    ∙ ap (λ x. with_entries (machine s t) (if x then [] else Polled (max (moment t) now) None ∷ [])) busy in
     let answer : None ≡ due_by s t (Some a) now =
-        sym (first (is_closed (layout_by s a) (machine s t)) None _ (sym (closed_same l.core (machine s t) (layout_by s a) b.law b.stands) ∙ closed)) in
+    sym (first (is_closed (layout_by s a) (machine s t)) None _ (sym (closed_same l.core (machine s t) (layout_by s a) b.law b.stands) ∙ closed)) in
     opened (record l { opening = record o { moment = max o.moment now } }) s t e a refl follows (sym follows.agreement_is ∙ some.1)
-        (subst (λ x. None ≡ due_by s t x now) (sym b.agreed_is) answer) h.faithful
-        (subst (λ x. Stands l.core x) (sym trace) b.stands) b.law
+    (subst (λ x. None ≡ due_by s t x now) (sym b.agreed_is) answer) h.faithful
+    (subst (λ x. Stands l.core x) (sym trace) b.stands) b.law
 
 -- an open one sends the answer to an opening that it owes
 pub polls_owed : (l : Link) (o : Handshake) (t : Trace Entry) (now : ℕ) (out : Option (List ℕ)) → IsSome (l.opening).agreement
@@ -317,14 +317,14 @@ polls_owed l o t now out met owes closed settings stays follows is h =
     let b = before l t a some.1 h in
     let busy : nat_lt 0 (owed s t) ≡ true = ap (nat_lt 0) (sym (h.follows).owed_is) ∙ owes in
     let trace : machine s (t ▷ e) ≡ machine s t =
-        machine_open s t e a b.agreed_is
-        ∙ ap (λ x. with_entries (machine s t) (if x then [] else Polled (max (moment t) now) out ∷ [])) busy in
+    machine_open s t e a b.agreed_is
+    ∙ ap (λ x. with_entries (machine s t) (if x then [] else Polled (max (moment t) now) out ∷ [])) busy in
     let answer : out ≡ due_by s t (Some a) now =
-        is ∙ sym (third (is_closed (layout_by s a) (machine s t)) (nat_lt 0 (owed s t)) None (opening_due s t now) _
-        (sym (closed_same l.core (machine s t) (layout_by s a) b.law b.stands) ∙ closed) busy) in
+    is ∙ sym (third (is_closed (layout_by s a) (machine s t)) (nat_lt 0 (owed s t)) None (opening_due s t now) _
+    (sym (closed_same l.core (machine s t) (layout_by s a) b.law b.stands) ∙ closed) busy) in
     opened (record l { opening = o }) s t e a settings follows b.agreed_is
-        (subst (λ x. out ≡ due_by s t x now) (sym b.agreed_is) answer) h.faithful
-        (subst (λ x. Stands l.core x) (sym trace) b.stands) b.law
+    (subst (λ x. out ≡ due_by s t x now) (sym b.agreed_is) answer) h.faithful
+    (subst (λ x. Stands l.core x) (sym trace) b.stands) b.law
 
 -- ---- bytes that an open link is given and hands out
 
@@ -337,9 +337,9 @@ gives_open l m t bytes met step same h =
     let some = some_is (l.opening).agreement met in
     let b = before l t some.0 some.1 h in
     opened (record l { core = m }) s t (Gave bytes) some.0 refl
-        (record { moment_is = f.moment_is; agreement_is = f.agreement_is; owed_is = f.owed_is; timer_is = f.timer_is })
-        b.agreed_is tt h.faithful
-        (subst (λ x. Stands m x) (sym (machine_open s t (Gave bytes) some.0 b.agreed_is)) (step (machine s t) b.stands)) (same ∙ b.law)
+    (record { moment_is = f.moment_is; agreement_is = f.agreement_is; owed_is = f.owed_is; timer_is = f.timer_is })
+    b.agreed_is tt h.faithful
+    (subst (λ x. Stands m x) (sym (machine_open s t (Gave bytes) some.0 b.agreed_is)) (step (machine s t) b.stands)) (same ∙ b.law)
 
 pub pulls_open : (l : Link) (m : Machine) (t : Trace Entry) (room : ℕ) (bytes : List ℕ) → IsSome (l.opening).agreement
     → ((u : Trace Entry) → Stands l.core u → Stands m (u ▷ Pulled room bytes)) → layout_of m ≡ layout_of l.core
@@ -350,6 +350,6 @@ pulls_open l m t room bytes met step same h =
     let some = some_is (l.opening).agreement met in
     let b = before l t some.0 some.1 h in
     opened (record l { core = m }) s t (Pulled room bytes) some.0 refl
-        (record { moment_is = f.moment_is; agreement_is = f.agreement_is; owed_is = f.owed_is; timer_is = f.timer_is })
-        b.agreed_is (let at = b.agreed_is in rw at tt) h.faithful
-        (subst (λ x. Stands m x) (sym (machine_open s t (Pulled room bytes) some.0 b.agreed_is)) (step (machine s t) b.stands)) (same ∙ b.law)
+    (record { moment_is = f.moment_is; agreement_is = f.agreement_is; owed_is = f.owed_is; timer_is = f.timer_is })
+    b.agreed_is (let at = b.agreed_is in rw at tt) h.faithful
+    (subst (λ x. Stands m x) (sym (machine_open s t (Pulled room bytes) some.0 b.agreed_is)) (step (machine s t) b.stands)) (same ∙ b.law)

@@ -152,9 +152,9 @@ passes_poll o t now out a is same h =
       agreement_is = h.agreement_is;
       owed_is = h.owed_is ∙ sym same;
       timer_is = h.timer_is ∙ sym (
-        ap (λ x. if is_asking s.role x && is_time (timer s t) at then Some (started (timer s t) at) else timer s t) (sym h.agreement_is ∙ is)
-        ∙ not_asking s.role a (is_time (timer s t) at) _ _
-      );
+          ap (λ x. if is_asking s.role x && is_time (timer s t) at then Some (started (timer s t) at) else timer s t) (sym h.agreement_is ∙ is)
+          ∙ not_asking s.role a (is_time (timer s t) at) _ _
+          );
     }
 
 -- ---- one more call

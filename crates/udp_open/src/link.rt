@@ -225,8 +225,8 @@ impl UdpLink {
         if self.is_closed() {
             return None;
         }
-        if let Some(due) = self.opening.next_due() {
-            return Some(due);
+        if self.opening.owes() {
+            return self.opening.next_due();
         }
         match self.core.next_due() {
             Some(due) => Some(due.max(self.opening.moment())),

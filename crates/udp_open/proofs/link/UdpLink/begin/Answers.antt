@@ -12,4 +12,4 @@ returns-clause-stands c =
     let given = where_ok c.give.result _ c.in-Ok.is c.give.ensures.trace Start c.start.ensures.stands in
     let early = subst (λ bytes. Stands c.give.new.self (Start ▷ Gave bytes)) c.deref.ensures.value given in
     subst (λ (l : Link). Stands c.owe_tellings.new.self.core (with_entries (Start ▷ Gave l.early) (tellings (l.opening).settings.role))) c.self.view_is
-        (c.owe_tellings.ensures.stands _ early)
+    (c.owe_tellings.ensures.stands _ early)

@@ -10,10 +10,10 @@ returns-in-Client-clause-stands c t h =
     let i = c.self.inside in
     let now = subst (λ (l : Link). Stands l.core t) (sym c.self.view_is) h in
     subst (λ (l : Link). Stands c.owe.new.self (with_entries t (tellings (l.opening).settings.role))) c.self.view_is
-        (owes_two (i.opening).settings.role c.owe.new.self t (sym c.role.ensures ∙ c.in-Client.is) (c.owe.ensures.trace t now))
+    (owes_two (i.opening).settings.role c.owe.new.self t (sym c.role.ensures ∙ c.in-Client.is) (c.owe.ensures.trace t now))
 
 pub returns-in-Server-clause-stands : goal.returns-in-Server-clause-stands
 returns-in-Server-clause-stands c t h =
     let i = c.self.inside in
     subst (λ (l : Link). Stands l.core (with_entries t (tellings (l.opening).settings.role))) c.self.view_is
-        (owes_none (i.opening).settings.role i.core t (sym c.role.ensures ∙ c.in-Server.is) (subst (λ (l : Link). Stands l.core t) (sym c.self.view_is) h))
+    (owes_none (i.opening).settings.role i.core t (sym c.role.ensures ∙ c.in-Server.is) (subst (λ (l : Link). Stands l.core t) (sym c.self.view_is) h))

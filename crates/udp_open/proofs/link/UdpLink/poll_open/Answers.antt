@@ -18,8 +18,8 @@ returns-then-not-owes-clause-trace c t h =
     let at = c.moment.ensures.value ∙ ap (λ (o : Handshake). o.moment) passed in
     let out = option_map (λ n. take n c.poll.new.out) c.poll.result in
     subst (λ (o : Handshake). StandsLink (record { opening = o; early = i.early.items; core = c.poll.new.self }) (t ▷ Polled c.args.now out)) (sym passed)
-        (polls_machine l c.poll.new.self t c.args.now out some (sym c.owes.ensures ∙ c.if-not-owes.true)
-        (λ u stands. subst (λ k. Stands c.poll.new.self (u ▷ Polled k out)) at (c.poll.ensures.trace u stands)) c.poll.ensures.layout now)
+    (polls_machine l c.poll.new.self t c.args.now out some (sym c.owes.ensures ∙ c.if-not-owes.true)
+    (λ u stands. subst (λ k. Stands c.poll.new.self (u ▷ Polled k out)) at (c.poll.ensures.trace u stands)) c.poll.ensures.layout now)
 
 pub returns-clause-trace : goal.returns-clause-trace
 returns-clause-trace c t h =

@@ -11,4 +11,4 @@ returns-in-Waiting-clause-trace c t h =
     let x = c.poll.ensures in
     let out = option_map (λ n. take n c.poll.new.out) c.poll.result in
     polls_waiting l c.poll.new.self t c.args.now out (none_at (i.opening).agreement (sym c.end.ensures.value ∙ c.in-Waiting.is))
-        x.settings x.agreement (x.follows t out now.follows (sends_same out)) (x.due t now.follows) now
+    x.settings x.agreement (x.follows t out now.follows (sends_same out)) (x.due t now.follows) now
