@@ -4,3 +4,6 @@ pub mod Heard
 pub mod Agreeing
 pub mod Staying
 pub mod links
+pub mod Links
+pub mod LinkSteps
+pub mod LinkDues

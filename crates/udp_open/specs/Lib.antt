@@ -4,3 +4,4 @@ pub mod LinkTrace
 pub mod Agreeing
 pub mod TwoLinks
 pub mod OneLink
+pub mod LinkView

@@ -15,6 +15,7 @@ mod flags;
 mod hearing;
 mod joined;
 mod laws;
+mod link;
 mod opening;
 mod sending;
 mod settings;
@@ -22,6 +23,7 @@ mod timer;
 
 pub use joined::{a_link_opens, two_links};
 pub use laws::{agreements_stay, both_agree, closed_for_good, openings_are_due};
+pub use link::UdpLink;
 pub use opening::{OpenEnd, Opening};
 pub use settings::{OpenSettings, hash_cookie};
 

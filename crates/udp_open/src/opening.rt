@@ -1,12 +1,16 @@
 //! The opening of a link.
 
-ghost use Rattle.std.specs.Prelude.{ℕ, ◌≡◌, ◌-◌, ◌<◌, ◌^◌, List, true, not, nat_lt, Option, if◌then◌else◌, Some, None, Ok, take, option_map, IfSome};
+ghost use Rattle.std.specs.Prelude.{ℕ, max, ◌≡◌, ◌-◌, ◌<◌, ◌^◌, List, true, not, nat_lt, Option, if◌then◌else◌, Some, None, Ok, take, option_map, IfSome};
 ghost use Rattle.mt_base.specs.declared.kinds.Role.TheVariants.{Client as IsClient};
 ghost use Rattle.mt_base.specs.Trace.{Trace, Start, ◌▷◌};
 ghost use Rattle.carrier.specs.declared.state.Took.{Took};
+ghost use Rattle.carrier.specs.declared.state.Took.TheVariants.{Ignored};
+ghost use Rattle.carrier.specs.declared.state.Reason.TheVariants.{LinkClosed};
 ghost use Rattle.carrier.specs.Entries.{Entry, In, Polled};
 ghost use Rattle.carrier.specs.Receiving.{has_effect};
 ghost use Rattle.udp1_packets.specs.Layout.{spelled};
+ghost use Rattle.udp_open.specs.declared.agreement.Agreement.{Agreement};
+ghost use Rattle.udp_open.specs.declared.opening.OpenEnd.TheVariants.{Agreed as IsAgreed};
 ghost use Rattle.udp_open.specs.Handshake.{agreed, expiries, row, is_closed, asked, is_time, started, owed_by, syn_ack, opening_answered, opening_due, IsNextDue};
 ghost use Rattle.udp_open.specs.OpeningView.{IsOffered, IsTimer, Follows, StandsOpen, AnswersFirst, SendsFirst, end_of, after_asking, next_syn};
 
@@ -81,6 +85,12 @@ impl Opening {
         ensures follows { (t : Trace Entry) (took : Took) → Follows self.old t →
             AnswersFirst result took → Follows self.new (t ▷ In now datagram.now took) }
         ensures settings { self.new.settings ≡ self.old.settings }
+        // What was agreed on stays, and until then the timer goes on.
+        ensures stays { (a : Agreement) → self.old.agreement ≡ Some a → self.new.agreement ≡ Some a }
+        ensures goes_on { self.new.agreement ≡ None → self.new.timer ≡ self.old.timer }
+        // A closed opening takes nothing.
+        ensures silent { nat_lt 16 (row self.old.timer) ≡ true →
+            (self.new.agreement ≡ self.old.agreement) × (self.new.timer ≡ self.old.timer) × (result ≡ Ignored LinkClosed) }
     {
         self.moment = self.moment.max(now);
         if self.is_closed() {
@@ -109,6 +119,10 @@ impl Opening {
             SendsFirst (option_map (λ n. take n out.new) result) out_after →
             Follows self.new (t ▷ Polled now out_after) }
         ensures settings { self.new.settings ≡ self.old.settings }
+        ensures agreement { self.new.agreement ≡ self.old.agreement }
+        // A closed opening sends nothing.
+        ensures silent { self.old.agreement ≡ None → nat_lt 16 (row self.old.timer) ≡ true →
+            (self.new.timer ≡ self.old.timer) × (result ≡ None) }
     {
         self.moment = self.moment.max(now);
         match (self.settings.role, self.agreement) {
@@ -116,6 +130,43 @@ impl Opening {
             (Role::Server, Some(agreement)) => self.answer(agreement, out),
             _ => None,
         }
+    }
+
+    /// Lets the time pass up to this moment, which is below 2^62.
+    pub(crate) fn pass(&mut self, now: u64)
+        requires { now < 2 ^ 62 }
+        ensures { self.new ≡ record self.old { moment = max self.old.moment now } }
+    {
+        self.moment = self.moment.max(now);
+    }
+
+    /// The last moment.
+    pub(crate) fn moment(&self) -> u64
+        ensures value { result ≡ self.now.moment }
+        ensures bound { result < 2 ^ 62 }
+    {
+        self.moment
+    }
+
+    /// Which end opens the link.
+    pub(crate) fn role(&self) -> Role
+        ensures { result ≡ self.now.settings.role }
+    {
+        self.settings.role
+    }
+
+    /// The initial number of this end.
+    pub(crate) fn initial(&self) -> u32
+        ensures { result ≡ self.now.settings.initial }
+    {
+        self.settings.initial
+    }
+
+    /// Whether a SYN+ACK is owed.
+    pub(crate) fn owes(&self) -> bool
+        ensures { result ≡ nat_lt 0 self.now.owed }
+    {
+        self.owed > 0
     }
 
     /// Keeps what the ends agreed on. A server owes one SYN+ACK more.
@@ -195,8 +246,10 @@ impl Opening {
 
     /// What the ends agreed on.
     pub fn end(&self) -> OpenEnd
-        ensures { (t : Trace Entry) → Follows self.now t →
+        ensures trace { (t : Trace Entry) → Follows self.now t →
             result ≡ end_of (agreed self.now.settings t) }
+        ensures value { result ≡ end_of self.now.agreement }
+        ensures offered { (version peer : ℕ) → result ≡ IsAgreed version peer → IsOffered version }
     {
         match self.agreement {
             Some(agreement) => OpenEnd::Agreed {

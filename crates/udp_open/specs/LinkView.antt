@@ -1,0 +1,89 @@
+-- What a link stands for.
+use Rattle.std.specs.Prelude.{◌≡◌, ℕ, ◌≤◌, ◌<◌, ◌&&◌, ◌||◌, Bool, true, false, not, max, is_some, nat_lt, List, [], length, if◌then◌else◌, Option, Some, None}
+use Rattle.mt_base.specs.Trace.{Trace}
+use Rattle.mt_windows.specs.ArrivedView.{left_of}
+use Rattle.mt_windows.specs.declared.limits.TheConstants.{QUEUE}
+use Rattle.mt_windows.specs.SendingView.{queued_of}
+use Rattle.carrier.specs.declared.state.LinkState.{LinkState}
+use Rattle.carrier.specs.declared.state.LinkState.TheVariants.{Opening, Open, Closed}
+use Rattle.carrier.specs.Entries.{Entry, given, moment}
+use Rattle.udp1_core.specs.MachineView.{Machine, Stands, condition_of, layout_of}
+use Rattle.udp_open.specs.declared.agreement.Agreement.{Agreement}
+use Rattle.udp_open.specs.Handshake.{agreed, row, owed, closes}
+use Rattle.udp_open.specs.OpeningView.{Handshake, Follows}
+use Rattle.udp_open.specs.LinkTrace.{LinkFaithful, machine, layout_by, link_due}
+use Rattle.udp_open.specs.declared.settings.OpenSettings.{OpenSettings}
+use Rattle.carrier.specs.Due.{closes as machine_closes}
+
+-- what is kept: the opening, the bytes that were given while it opened, and the machine
+pub record Link : Type 0 where
+  pub opening : Handshake
+  pub early : List ℕ
+  pub core : Machine
+
+-- While it opens the bytes given wait; once the ends agreed the machine stands for its trace, under
+-- the layout that was agreed on.
+abbrev pub StandsBy : Link → Trace Entry → Option Agreement → Type 0
+StandsBy l t None = l.early ≡ given t
+StandsBy l t (Some a) =
+    Stands l.core (machine (l.opening).settings t) × (layout_of l.core ≡ layout_by (l.opening).settings a)
+
+-- this link stands for this trace
+pub record StandsLink (l : Link) (t : Trace Entry) : Type 0 where
+  pub follows : Follows l.opening t
+  pub machine_is : StandsBy l t (agreed (l.opening).settings t)
+  pub faithful : LinkFaithful (l.opening).settings t
+
+-- what is true of every link
+abbrev pub IsSoundLink : Link → Type 0
+IsSoundLink l = length l.early ≤ QUEUE
+
+-- ---- by what was agreed on
+
+abbrev pub is_closed_state : LinkState → Bool
+is_closed_state Opening = false
+is_closed_state Open = false
+is_closed_state (Closed expiries) = true
+
+-- what the link is
+abbrev pub condition_by : Link → Option Agreement → LinkState
+condition_by l None = if nat_lt 16 (row (l.opening).timer) then Closed (row (l.opening).timer) else Opening
+condition_by l (Some a) = condition_of l.core
+
+abbrev pub condition_in : Link → LinkState
+condition_in l = condition_by l (l.opening).agreement
+
+-- the bytes in order that were not pulled
+abbrev pub left_by : Link → Option Agreement → List ℕ
+left_by l None = []
+left_by l (Some a) = left_of ((l.core).receiver).inbox
+
+abbrev pub left_in : Link → List ℕ
+left_in l = left_by l (l.opening).agreement
+
+-- the bytes given that are not known to have come
+abbrev pub load_by : Link → Option Agreement → ℕ
+load_by l None = length l.early
+load_by l (Some a) = queued_of ((l.core).sender).outbox
+
+abbrev pub load_in : Link → ℕ
+load_in l = load_by l (l.opening).agreement
+
+-- ---- when
+
+-- a poll at this moment, which is not before the last one, closes the link
+abbrev pub closes_by : OpenSettings → Trace Entry → Option Agreement → ℕ → Bool
+closes_by settings t None at = closes settings t at
+closes_by settings t (Some a) at =
+    not (nat_lt 0 (owed settings t)) && machine_closes (layout_by settings a) (machine settings t) at
+
+-- a poll at this moment sends a datagram or closes the link
+abbrev pub is_due_in : OpenSettings → Trace Entry → ℕ → Bool
+is_due_in settings t at = is_some (link_due settings t at) || closes_by settings t (agreed settings t) (max (moment t) at)
+
+-- The least moment, from the last one on, at which a poll sends a datagram or closes the link, if no
+-- other call comes; None where there is none.
+abbrev pub IsNextDueIn : OpenSettings → Trace Entry → Option ℕ → Type 0
+IsNextDueIn settings t None = (at : ℕ) → is_due_in settings t at ≡ false
+IsNextDueIn settings t (Some m) =
+    (moment t ≤ m) × (is_due_in settings t m ≡ true) × ((at : ℕ) → moment t ≤ at → at < m → is_due_in settings t at ≡ false)

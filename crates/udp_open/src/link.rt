@@ -1,0 +1,318 @@
+//! A link that opens, and then goes on as a machine.
+
+ghost use Rattle.std.specs.Prelude.{◌≡◌, ◌+◌, ◌<◌, ◌≤◌, ◌^◌, ◌++◌, ◌%◌, ◌==◌, [], ℕ, List, Option, Some, None, true, false, max, length, get_or, option_map, take, IfOk, IfSome, IsSome, OnOk, OnErr, nat_lt, nat_le, nat_eq, bit_and, is_some};
+ghost use Rattle.carrier.specs.States.{give_answer};
+ghost use Rattle.mt_base.specs.declared.kinds.Role.TheVariants.{Client as IsClient};
+ghost use Rattle.mt_base.specs.Trace.{Trace, Start, ◌▷◌};
+ghost use Rattle.mt_windows.specs.ArrivedView.{left_of};
+ghost use Rattle.mt_windows.specs.SendingView.{queued_of};
+ghost use Rattle.carrier.specs.declared.state.LinkState.TheVariants.{Closed as IsClosed};
+ghost use Rattle.carrier.specs.declared.state.Took.TheVariants.{Ignored};
+ghost use Rattle.carrier.specs.declared.state.Reason.TheVariants as reason;
+ghost use Rattle.carrier.specs.Entries.{Entry, Gave, In, Polled, Owed};
+ghost use Rattle.udp1_core.specs.MachineView.{Stands, layout_of, link_layout, condition_of};
+ghost use Rattle.udp_open.specs.OpeningView.{IsOffered, end_of};
+ghost use Rattle.udp_open.specs.LinkTrace.{LinkFaithful, begins, with_entries, has_syn, tellings};
+ghost use Rattle.udp_open.specs.LinkView.{StandsLink, condition_in, left_in, load_in, IsNextDueIn, is_closed_state};
+
+use crate::opening::{OpenEnd, Opening};
+use crate::settings::OpenSettings;
+use carrier::{Carrier, GiveRefusal, LinkState, Reason, Took};
+use mt_base::{NoMemory, Role};
+use mt_windows::QUEUE;
+use std::alloc::Global;
+use std::marker::Model;
+use udp1_core::Udp1Core;
+
+/// Expiries in a row that an opening survives.
+const EXPIRIES: u32 = 16;
+
+/// A reliable link over UDP: it opens by the handshake of MS-RDPEUDP section 3.1.5.1, and then goes
+/// on in the version that its ends agreed on. Bytes that are given while it opens wait. It has no
+/// socket and no clock, and takes all of its memory when it is made.
+#[derive(Drop)]
+pub struct UdpLink {
+    opening: Opening,
+    early: Vec<u8>,
+    core: Udp1Core,
+}
+
+impl Model for UdpLink {
+    ghost use Rattle.std.specs.Prelude.{◌≤◌};
+    ghost use Rattle.std.specs.Vec.{vec_capacity};
+    ghost use Rattle.mt_windows.specs.declared.limits.TheConstants.{QUEUE};
+    ghost use Rattle.udp_open.specs.LinkView.{Link, IsSoundLink};
+
+    ghost Value = { Link };
+
+    ghost view = { λ l. record { opening = l.opening; early = l.early.items; core = l.core } };
+
+    ghost invariant = { λ l. record { sound : IsSoundLink (record { opening = l.opening; early = l.early.items; core = l.core }); room : QUEUE ≤ vec_capacity l.early } };
+}
+
+impl UdpLink {
+    /// A link that opens with these settings, whose version is 0x0001 or 0x0002.
+    pub fn new(alloc: Global, settings: &OpenSettings) -> Result<UdpLink, NoMemory>
+        requires { IsOffered settings.now.version }
+        ensures stands { IfOk result (λ l. StandsLink l Start) }
+        ensures settings { IfOk result (λ l. l.opening.settings ≡ settings.now) }
+        ensures left { IfOk result (λ l. left_in l ≡ []) }
+        ensures load { IfOk result (λ l. load_in l ≡ 0) }
+    {
+        let early = Vec::with_capacity(alloc, QUEUE)?;
+        let core = Udp1Core::new(alloc, 0, 0, settings.version)?;
+        Ok(UdpLink {
+            opening: Opening::new(settings),
+            early,
+            core,
+        })
+    }
+
+    /// Starts the machine, and hands it the bytes that were given while the link opened.
+    fn begin(&mut self, version: u16, peer_initial: u32)
+        requires { IsOffered version }
+        ensures stands { Stands self.new.core (with_entries Start (begins self.old.opening.settings.role self.old.early)) }
+        ensures layout { layout_of self.new.core ≡ link_layout self.old.opening.settings.initial peer_initial version }
+        ensures left { left_of self.new.core.receiver.inbox ≡ [] }
+        ensures queued { queued_of self.new.core.sender.outbox ≤ length self.old.early }
+        ensures open { (e : ℕ) → condition_of self.new.core ≡ IsClosed e → ⊥ }
+        ensures early { self.new.early ≡ [] }
+        ensures opening { self.new.opening ≡ self.old.opening }
+    {
+        self.core
+            .start(self.opening.initial(), peer_initial, version);
+        match self.core.give(&self.early) {
+            Ok(()) => {}
+            Err(_) => unreachable!(),
+        }
+        self.early.clear();
+        self.owe_tellings();
+    }
+
+    /// A client that took a SYN+ACK, or a copy of it, owes two tellings.
+    fn owe_tellings(&mut self)
+        ensures stands { (t : Trace Entry) → Stands self.old.core t →
+            Stands self.new.core (with_entries t (tellings self.old.opening.settings.role)) }
+        ensures layout { layout_of self.new.core ≡ layout_of self.old.core }
+        ensures left { left_of self.new.core.receiver.inbox ≡ left_of self.old.core.receiver.inbox }
+        ensures queued { queued_of self.new.core.sender.outbox ≡ queued_of self.old.core.sender.outbox }
+        ensures state { condition_of self.new.core ≡ condition_of self.old.core }
+        ensures opening { self.new.opening ≡ self.old.opening }
+        ensures early { self.new.early ≡ self.old.early }
+    {
+        match self.opening.role() {
+            Role::Client => self.core.owe(2),
+            Role::Server => (),
+        }
+    }
+
+    /// Takes a datagram while the link opens.
+    fn input_opening(&mut self, now: u64, datagram: &[u8]) -> Took
+        requires moment { now < 2 ^ 62 }
+        requires opens { self.old.opening.agreement ≡ None }
+        ensures trace { (t : Trace Entry) → StandsLink self.old t →
+            StandsLink self.new (t ▷ In now datagram.now result) }
+        ensures settings { self.new.opening.settings ≡ self.old.opening.settings }
+        ensures left { left_in self.new ≡ [] }
+        ensures load { load_in self.new ≤ load_in self.old }
+        ensures stays_closed { (e : ℕ) → condition_in self.old ≡ IsClosed e →
+            (condition_in self.new ≡ IsClosed e) × (result ≡ Ignored reason.LinkClosed) }
+        ensures stays_open { (e : ℕ) → condition_in self.new ≡ IsClosed e → condition_in self.old ≡ IsClosed e }
+    {
+        let took = self.opening.input(now, datagram);
+        match self.opening.end() {
+            OpenEnd::Waiting => (),
+            OpenEnd::Agreed {
+                version,
+                peer_initial,
+            } => self.begin(version, peer_initial),
+        }
+        took
+    }
+
+    /// Takes a datagram where the link is open.
+    fn input_open(&mut self, now: u64, datagram: &[u8]) -> Took
+        requires moment { now < 2 ^ 62 }
+        requires opens { IsSome self.old.opening.agreement }
+        ensures trace { (t : Trace Entry) → StandsLink self.old t →
+            StandsLink self.new (t ▷ In now datagram.now result) }
+        ensures settings { self.new.opening.settings ≡ self.old.opening.settings }
+        ensures left { (more : List ℕ) × (left_in self.new ≡ left_in self.old ++ more) }
+        ensures load { load_in self.new ≤ load_in self.old }
+        ensures stays_closed { (e : ℕ) → condition_in self.old ≡ IsClosed e →
+            (condition_in self.new ≡ IsClosed e) × (result ≡ Ignored reason.LinkClosed) }
+        ensures stays_open { (e : ℕ) → condition_in self.new ≡ IsClosed e → condition_in self.old ≡ IsClosed e }
+    {
+        if !has_syn(datagram) {
+            self.opening.pass(now);
+            return self.core.input(self.opening.moment(), datagram);
+        }
+        if self.is_closed() {
+            self.opening.pass(now);
+            return Took::Ignored(Reason::LinkClosed);
+        }
+        let took = self.opening.input(now, datagram);
+        match took {
+            Took::Used => self.owe_tellings(),
+            Took::Ignored(_) => (),
+        }
+        took
+    }
+
+    /// Sends where the link is open.
+    fn poll_open(&mut self, now: u64, out: &mut [u8; 1232]) -> Option<usize>
+        requires moment { now < 2 ^ 62 }
+        requires opens { IsSome self.old.opening.agreement }
+        ensures bound { IfSome result (λ n. n ≤ 1232) }
+        ensures trace { (t : Trace Entry) → StandsLink self.old t →
+            StandsLink self.new (t ▷ Polled now (option_map (λ n. take n out.new) result)) }
+        ensures settings { self.new.opening.settings ≡ self.old.opening.settings }
+        ensures left { left_in self.new ≡ left_in self.old }
+        ensures load { load_in self.new ≤ load_in self.old }
+        ensures stays_closed { (e : ℕ) → condition_in self.old ≡ IsClosed e →
+            (condition_in self.new ≡ IsClosed e) × (result ≡ None) }
+    {
+        if !self.opening.owes() {
+            self.opening.pass(now);
+            return self.core.poll(self.opening.moment(), out);
+        }
+        if self.is_closed() {
+            self.opening.pass(now);
+            return None;
+        }
+        self.opening.poll(now, out)
+    }
+
+    /// Keeps bytes while the link opens.
+    fn keep(&mut self, bytes: &[u8]) -> Result<(), GiveRefusal>
+        requires opens { self.old.opening.agreement ≡ None }
+        ensures answer { result ≡ give_answer (condition_in self.old) (load_in self.old) (length bytes.now) }
+        ensures trace { OnOk result ((t : Trace Entry) → StandsLink self.old t → StandsLink self.new (t ▷ Gave bytes.now)) }
+        ensures kept { OnOk result (self.new ≡ record self.old { early = self.old.early ++ bytes.now }) }
+        ensures unchanged { OnErr result (self.new ≡ self.old) }
+    {
+        let expiries = self.opening.expiries();
+        if expiries > EXPIRIES {
+            return Err(GiveRefusal::Closed { expiries });
+        }
+        let queued = self.early.len();
+        if queued + bytes.len() > QUEUE {
+            return Err(GiveRefusal::Full { queued });
+        }
+        match self.early.extend_from_slice(bytes) {
+            Ok(()) => Ok(()),
+            Err(_) => unreachable!(),
+        }
+    }
+
+    /// What the link is while it opens.
+    fn state_opening(&self) -> LinkState
+        requires { self.now.opening.agreement ≡ None }
+        ensures { result ≡ condition_in self.now }
+    {
+        let expiries = self.opening.expiries();
+        if expiries > EXPIRIES {
+            return LinkState::Closed { expiries };
+        }
+        LinkState::Opening
+    }
+
+    /// When something is sent or the link is closed, where the link is open.
+    fn next_open(&self) -> Option<u64>
+        requires { IsSome self.now.opening.agreement }
+        ensures { (t : Trace Entry) → StandsLink self.now t → IsNextDueIn self.now.opening.settings t result }
+    {
+        if self.is_closed() {
+            return None;
+        }
+        if self.opening.owes() {
+            return self.opening.next_due();
+        }
+        match self.core.next_due() {
+            Some(due) => Some(due.max(self.opening.moment())),
+            None => None,
+        }
+    }
+
+    /// Whether the machine of an open link is closed.
+    fn is_closed(&self) -> bool
+        ensures { result ≡ is_closed_state (condition_of self.now.core) }
+    {
+        matches!(self.core.state(), LinkState::Closed { .. })
+    }
+}
+
+/// Whether the datagram's flag SYN is set (MS-RDPEUDP section 2.2.2.1).
+fn has_syn(datagram: &[u8]) -> bool
+    ensures { result ≡ has_syn datagram.now }
+{
+    match datagram.get(7) {
+        Some(flags) => flags % 2 == 1,
+        None => false,
+    }
+}
+
+impl Carrier for UdpLink {
+    ghost stands = { λ l t. StandsLink l t };
+
+    ghost law = { λ l t. LinkFaithful l.opening.settings t };
+
+    ghost left = { λ l. left_in l };
+
+    ghost load = { λ l. load_in l };
+
+    ghost condition = { λ l. condition_in l };
+
+    ghost next = { λ l t m. IsNextDueIn l.opening.settings t m };
+
+    fn input(&mut self, now: u64, datagram: &[u8]) -> Took {
+        match self.opening.end() {
+            OpenEnd::Waiting => self.input_opening(now, datagram),
+            OpenEnd::Agreed { .. } => self.input_open(now, datagram),
+        }
+    }
+
+    fn poll(&mut self, now: u64, out: &mut [u8; 1232]) -> Option<usize> {
+        match self.opening.end() {
+            OpenEnd::Waiting => self.opening.poll(now, out),
+            OpenEnd::Agreed { .. } => self.poll_open(now, out),
+        }
+    }
+
+    fn give(&mut self, bytes: &[u8]) -> Result<(), GiveRefusal> {
+        match self.opening.end() {
+            OpenEnd::Waiting => self.keep(bytes),
+            OpenEnd::Agreed { .. } => self.core.give(bytes),
+        }
+    }
+
+    fn pull(&mut self, out: &mut [u8]) -> usize {
+        match self.opening.end() {
+            OpenEnd::Waiting => 0,
+            OpenEnd::Agreed { .. } => self.core.pull(out),
+        }
+    }
+
+    fn queued(&self) -> usize {
+        match self.opening.end() {
+            OpenEnd::Waiting => self.early.len(),
+            OpenEnd::Agreed { .. } => self.core.queued(),
+        }
+    }
+
+    fn next_due(&self) -> Option<u64> {
+        match self.opening.end() {
+            OpenEnd::Waiting => self.opening.next_due(),
+            OpenEnd::Agreed { .. } => self.next_open(),
+        }
+    }
+
+    fn state(&self) -> LinkState {
+        match self.opening.end() {
+            OpenEnd::Waiting => self.state_opening(),
+            OpenEnd::Agreed { .. } => self.core.state(),
+        }
+    }
+
+    ghost keeps = { λ l t h. h.faithful };
+}
