@@ -4,6 +4,6 @@ pub mod Heard
 pub mod Agreeing
 pub mod Staying
 pub mod links
-pub mod Links
+pub mod LinkLemmas
 pub mod LinkSteps
 pub mod LinkDues

@@ -20,7 +20,7 @@ use Rattle.udp_open.specs.declared.agreement.Agreement.{Agreement}
 use Rattle.udp_open.specs.Handshake.{agreed, owed, opening_due, opening_meant, closes, is_asking, is_due, is_time, timer as opening_timer, expiries, IsNextDue}
 use Rattle.udp_open.specs.LinkTrace.{has_syn, layout_by, begins_by, copies, tells, with_entries, machine, due_by}
 use Rattle.udp_open.specs.LinkView.{Link, StandsLink, is_closed_state, closes_by, is_due_in, IsNextDueIn}
-use Rattle.udp_open.proofs.Links.{Before, before}
+use Rattle.udp_open.proofs.LinkLemmas.{Before, before}
 use Rattle.udp_open.proofs.LinkSteps.{some_is, closed_same}
 
 -- ---- what is due stays due, if no other call comes

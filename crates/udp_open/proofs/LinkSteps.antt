@@ -23,7 +23,7 @@ use Rattle.udp_open.specs.Handshake.{agreed, opening_answered, opening_due, owed
 use Rattle.udp_open.specs.LinkTrace.{has_syn, layout_by, begins, copies, tellings, with_entries, machine, answered_by, due_by, Answers}
 use Rattle.udp_open.specs.LinkView.{Link, StandsBy, StandsLink, is_closed_state}
 use Rattle.udp_open.specs.OpeningView.{Handshake, Follows, AnswersFirst, SendsFirst, end_of}
-use Rattle.udp_open.proofs.Links.{machine_begins, machine_open, keeps_early, passes_in, ignores_in, passes_poll, opened, Before, before, waits}
+use Rattle.udp_open.proofs.LinkLemmas.{machine_begins, machine_open, keeps_early, passes_in, ignores_in, passes_poll, opened, Before, before, waits}
 
 -- ---- what a link follows of its opening
 

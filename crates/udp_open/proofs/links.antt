@@ -5,3 +5,4 @@ pub mod Machines
 pub mod Network
 pub mod Whole
 pub mod OneLink
+pub mod Joined

@@ -18,6 +18,7 @@ use Rattle.udp_open.specs.Handshake.{agreed}
 use Rattle.udp_open.specs.OpeningView.{IsOffered}
 use Rattle.udp_open.specs.Agreeing.{AgreesWith}
 use Rattle.udp_open.specs.LinkTrace.{tells, LinkFaithful}
+use Rattle.udp_open.specs.LinkView.{Link, StandsLink}
 
 -- ---- the premises
 
@@ -76,3 +77,20 @@ LinkPassed settings w s =
 -- so is what was pulled of it
 abbrev pub LinkPulled : Trace Step → Role → Type 0
 LinkPulled w s = (more : List ℕ) × (given (half s w) ≡ pulled (half (other s) w) ++ more)
+
+-- ---- two links of the code
+
+abbrev pub settings_by : OpenSettings → OpenSettings → Role → OpenSettings
+settings_by server client Server = server
+settings_by server client Client = client
+
+-- These links stand for the two ends of one.
+pub record JoinedLinks (late : ℕ) (server client : Link) (w : Trace Step) : Type 0 where
+  pub roles : (s : Role) → (settings_by (server.opening).settings (client.opening).settings s).role ≡ s
+  pub kinds : (s : Role) → (settings_by (server.opening).settings (client.opening).settings s).kind ≡ Reliable
+  pub versions : (s : Role) → IsOffered (settings_by (server.opening).settings (client.opening).settings s).version
+  pub initials : (s : Role) → (settings_by (server.opening).settings (client.opening).settings s).initial < 2 ^ 32
+  pub server_stands : StandsLink server (half Server w)
+  pub client_stands : StandsLink client (half Client w)
+  pub in_time : WINDOW + late ≤ 2 ^ 31
+  pub timely : Timely late w

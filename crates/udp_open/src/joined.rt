@@ -9,8 +9,9 @@ ghost use Rattle.carrier.specs.Joined.{Step, half};
 ghost use Rattle.udp_open.specs.declared.settings.OpenSettings.{OpenSettings};
 ghost use Rattle.udp_open.specs.Handshake.{agreed};
 ghost use Rattle.udp_open.specs.OneLink.{one_agreement, one_link, one_settings};
-ghost use Rattle.udp_open.specs.TwoLinks.{AgreesIn, LinkNet, LinkPassed, LinkPulled, MachinesRead, PartsArrive};
+ghost use Rattle.udp_open.specs.TwoLinks.{AgreesIn, JoinedLinks, LinkNet, LinkPassed, LinkPulled, MachinesRead, PartsArrive};
 
+use crate::link::UdpLink;
 use udp1_core::first_links_join;
 
 /// Two ends of one link, which opens and then carries bytes, joined by a network that loses, copies
@@ -32,6 +33,14 @@ pub fn two_links()
         → LinkNet late settings w → (s : Role) → LinkPulled w s }
 {
     first_links_join();
+}
+
+/// What was pulled of one of two joined links is the beginning of what was given to the other.
+pub fn pulled_was_given(server: &UdpLink, client: &UdpLink)
+    ensures client { (late : ℕ) (w : Trace Step) → JoinedLinks late server.now client.now w → LinkPulled w Server }
+    ensures server { (late : ℕ) (w : Trace Step) → JoinedLinks late server.now client.now w → LinkPulled w Client }
+{
+    two_links();
 }
 
 /// A small link meets what [`two_links`] asks: both ends agree, and a byte arrives that the server

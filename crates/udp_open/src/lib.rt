@@ -1,13 +1,16 @@
-//! The opening of a link over UDP (MS-RDPEUDP section 3.1.5.1): how its two ends agree on a version
-//! and tell each other their initial numbers. It has no socket and no clock.
+//! A link over UDP from its opening on (MS-RDPEUDP section 3.1.5.1): how its two ends agree on a
+//! version and tell each other their initial numbers, and how they then go on. It has no socket and
+//! no clock.
 //!
-//! Below it stand `udp1_packets`, which reads and writes the datagrams of an opening, `carrier` with
-//! the calls of a link and what they answer, `mt_windows` with the limits of a link, and the kit's
-//! `sha2`. What the crates above use is that [`Opening`] stands for a trace of its calls, in which
-//! each datagram is answered and each poll sends as the handshake says; that [`Opening::end`] is what
-//! was agreed on in that trace; that two ends which meet agree ([`both_agree`]); and that on two
-//! joined links, from their opening on, what arrives at one end is what the other was given
-//! ([`two_links`]).
+//! Below it stand `udp1_core` with the machine of versions 1 and 2, `udp1_packets`, which reads and
+//! writes the datagrams of an opening, `carrier` with the calls of a link and what they answer,
+//! `mt_windows` with the limits of a link, and the kit's `sha2`. What the crates above use is that
+//! [`UdpLink`] is a `Carrier`, which opens and then goes on as the machine of the version agreed on,
+//! and that on two joined links, from their opening on, what arrives at one end is what the other was
+//! given ([`two_links`], [`pulled_was_given`]). Of an [`Opening`] alone they use that it stands for a
+//! trace of its calls, in which each datagram is answered and each poll sends as the handshake says,
+//! that [`Opening::end`] is what was agreed on in it, and that two ends which meet agree
+//! ([`both_agree`]).
 #![tactic(auto)]
 
 mod agreement;
@@ -21,7 +24,7 @@ mod sending;
 mod settings;
 mod timer;
 
-pub use joined::{a_link_opens, two_links};
+pub use joined::{a_link_opens, pulled_was_given, two_links};
 pub use laws::{agreements_stay, both_agree, closed_for_good, openings_are_due};
 pub use link::UdpLink;
 pub use opening::{OpenEnd, Opening};

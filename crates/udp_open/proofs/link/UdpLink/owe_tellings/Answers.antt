@@ -2,7 +2,7 @@ use Rattle.std.proofs.Common.{sym, ap, ◌∙◌, subst}
 use Rattle.udp1_core.specs.MachineView.{Stands}
 use Rattle.udp_open.specs.LinkTrace.{with_entries, tellings}
 use Rattle.udp_open.specs.LinkView.{Link}
-use Rattle.udp_open.proofs.Links.{owes_two, owes_none}
+use Rattle.udp_open.proofs.LinkLemmas.{owes_two, owes_none}
 use Rattle.udp_open.proofs.link.UdpLink.owe_tellings.Goals as goal
 
 pub returns-in-Client-clause-stands : goal.returns-in-Client-clause-stands
