@@ -1,5 +1,5 @@
 -- When a poll of a link sends a datagram or closes the link.
-use Rattle.std.proofs.Common.{◌≡◌, ℕ, ◌+◌, ◌<◌, ◌≤◌, Bool, true, false, not, ◌&&◌, ◌||◌, leb, cond, nat_lt, nat_le, max, List, [], ◌∷◌, if◌then◌else◌, Option, Some, None, is_some, unwrap_or, option_map, refl, sym, ap, ◌∙◌, subst, arith}
+use Rattle.std.proofs.Common.{◌≡◌, ℕ, ◌+◌, ◌≤◌, Bool, true, false, not, ◌&&◌, ◌||◌, cond, nat_lt, nat_le, max, List, [], ◌∷◌, if◌then◌else◌, Option, Some, None, is_some, unwrap_or, option_map, refl, sym, ap, ◌∙◌, subst, arith}
 use Rattle.std.proofs.lemmas.Bool.Decides.{nat_tests}
 use Rattle.std.specs.Option.{IsSome}
 use Rattle.mt_base.specs.declared.kinds.Role.{Role}
@@ -12,15 +12,15 @@ use Rattle.carrier.specs.Entries.{Entry, Gave, In, Polled, Pulled, Owed, Posted,
 use Rattle.carrier.specs.Layout.{Layout}
 use Rattle.carrier.specs.Receiving.{owed as owed_tellings, peer_window}
 use Rattle.carrier.specs.Sending.{acts, timer, expiry, expires, is_over, is_waiting, is_closed}
-use Rattle.carrier.specs.Due.{again, fresh, telling_with, is_pressing, may_send, due, closes as machine_closes, is_due as machine_is_due, IsNextDue as MachineNextDue}
+use Rattle.carrier.specs.Due.{again, fresh, meant, telling_with, is_pressing, may_send, due, closes as machine_closes, is_due as machine_is_due, IsNextDue as MachineNextDue}
 use Rattle.udp1_packets.specs.Layout.{spelled}
-use Rattle.udp1_core.specs.MachineView.{condition_of}
+use Rattle.udp1_core.specs.MachineView.{Stands, condition_of, layout_of}
 use Rattle.udp_open.specs.declared.settings.OpenSettings.{OpenSettings}
 use Rattle.udp_open.specs.declared.agreement.Agreement.{Agreement}
 use Rattle.udp_open.specs.Handshake.{agreed, owed, opening_due, opening_meant, closes, is_asking, is_due, is_time, timer as opening_timer, expiries, IsNextDue}
-use Rattle.udp_open.specs.LinkTrace.{has_syn, layout_by, begins_by, copies, tells, with_entries, machine, due_by}
+use Rattle.udp_open.specs.LinkTrace.{has_syn, layout_by, begins_by, copies, tellings, tells, with_entries, machine, due_by}
 use Rattle.udp_open.specs.LinkView.{Link, StandsLink, is_closed_state, closes_by, is_due_in, IsNextDueIn}
-use Rattle.udp_open.proofs.LinkLemmas.{Before, before}
+use Rattle.udp_open.proofs.LinkLemmas.{before}
 use Rattle.udp_open.proofs.LinkSteps.{some_is, closed_same}
 
 -- ---- what is due stays due, if no other call comes
@@ -85,7 +85,7 @@ begins_moment : (s : OpenSettings) (o : Option Agreement) (early : List ℕ) (m 
 begins_moment s None early m = refl
 begins_moment s (Some a) early m = by_role s.role
   where
-    by_role : (role : Role) → moment (with_entries (m ▷ Gave early) (Rattle.udp_open.specs.LinkTrace.tellings role)) ≡ moment m
+    by_role : (role : Role) → moment (with_entries (m ▷ Gave early) (tellings role)) ≡ moment m
     by_role Server = refl
     by_role Client = refl
 
@@ -171,8 +171,8 @@ due_machine s t a at is going none =
     let same : max (moment u) k ≡ k = omega (arith, early) in
     ap (λ o. is_some (due_by s t o at) || closes_by s t o k) is
     ∙ picks_machine (is_closed l u) (nat_lt 0 (owed s t)) (machine_closes l u k) (opening_due s t at) (due l u k) going none
-    ∙ ap (λ b. b || machine_closes l u k) (mapped l.spell (Rattle.carrier.specs.Due.meant l u k))
-    ∙ ap (λ x. is_some (Rattle.carrier.specs.Due.meant l u k) || machine_closes l u x) (sym same)
+    ∙ ap (λ b. b || machine_closes l u k) (mapped l.spell (meant l u k))
+    ∙ ap (λ x. is_some (meant l u k) || machine_closes l u x) (sym same)
 
 -- ---- the next moment
 
@@ -192,13 +192,13 @@ next_owed l t r met owes going is h =
     let closed = sym (closed_same l.core (machine s t) (layout_by s a) b.law b.stands) ∙ going in
     next_opening s t r (λ at. due_opening s t a at b.agreed_is closed (ap (nat_lt 0) (sym (h.follows).owed_is) ∙ owes)) is
 
--- what is due next where none is owed
+-- what is due next where none is owed: by the machine
 record Machines (l : Link) (t : Trace Entry) : Type 0 where
   layout : Layout
   trace : Trace Entry
   within : moment trace ≤ moment t
   same : (at : ℕ) → is_due_in (l.opening).settings t at ≡ machine_is_due layout trace (max (moment t) at)
-  next : (r : Option ℕ) → ((u : Trace Entry) → Rattle.udp1_core.specs.MachineView.Stands l.core u → MachineNextDue (Rattle.udp1_core.specs.MachineView.layout_of l.core) u r) → MachineNextDue layout trace r
+  next : (r : Option ℕ) → ((u : Trace Entry) → Stands l.core u → MachineNextDue (layout_of l.core) u r) → MachineNextDue layout trace r
 
 machines : (l : Link) (t : Trace Entry) → IsSome (l.opening).agreement → nat_lt 0 (l.opening).owed ≡ false
     → is_closed_state (condition_of l.core) ≡ false → StandsLink l t → Machines l t
@@ -218,7 +218,7 @@ machines l t met none going h =
 
 pub next_never : (l : Link) (t : Trace Entry) → IsSome (l.opening).agreement → nat_lt 0 (l.opening).owed ≡ false
     → is_closed_state (condition_of l.core) ≡ false
-    → ((u : Trace Entry) → Rattle.udp1_core.specs.MachineView.Stands l.core u → MachineNextDue (Rattle.udp1_core.specs.MachineView.layout_of l.core) u None)
+    → ((u : Trace Entry) → Stands l.core u → MachineNextDue (layout_of l.core) u None)
     → StandsLink l t → IsNextDueIn (l.opening).settings t None
 next_never l t met none going is h =
     let m = machines l t met none going h in
@@ -227,7 +227,7 @@ next_never l t met none going is h =
 -- a moment that the link has passed is the link's own
 pub next_later : (l : Link) (t : Trace Entry) (d : ℕ) → IsSome (l.opening).agreement → nat_lt 0 (l.opening).owed ≡ false
     → is_closed_state (condition_of l.core) ≡ false
-    → ((u : Trace Entry) → Rattle.udp1_core.specs.MachineView.Stands l.core u → MachineNextDue (Rattle.udp1_core.specs.MachineView.layout_of l.core) u (Some d))
+    → ((u : Trace Entry) → Stands l.core u → MachineNextDue (layout_of l.core) u (Some d))
     → StandsLink l t → IsNextDueIn (l.opening).settings t (Some (max d (l.opening).moment))
 next_later l t d met none going is h =
     let m = machines l t met none going h in

@@ -1,5 +1,5 @@
 -- Why a link stands for its trace: what its calls do to what was agreed on, and to its machine.
-use Rattle.std.proofs.Common.{◌≡◌, ◌⊎◌, inl, inr, ℕ, ◌+◌, ◌-◌, ◌%◌, ◌≤◌, ◌<◌, ◌==◌, Bool, true, false, ◌&&◌, ◌↔◌, nat_lt, min, max, List, [], ◌++◌, length, get_or, slice_index, if◌then◌else◌, All, Option, Some, None, option_map, Result, Ok, Err, refl, sym, ap, ◌∙◌, subst, arith}
+use Rattle.std.proofs.Common.{◌≡◌, ◌⊎◌, inl, inr, ℕ, ◌%◌, ◌≤◌, ◌==◌, Bool, true, false, ◌&&◌, nat_lt, max, List, length, get_or, if◌then◌else◌, Option, Some, None, Result, Ok, Err, refl, sym, ap, ◌∙◌, subst, arith}
 use Rattle.mt_base.proofs.Meanings.{was_spelled}
 use Rattle.mt_base.specs.declared.kinds.Role.{Role}
 use Rattle.mt_base.specs.declared.kinds.Role.TheVariants.{Server, Client}
@@ -9,13 +9,13 @@ use Rattle.carrier.specs.declared.first_layout.Refusal1.{Refusal1}
 use Rattle.carrier.specs.declared.state.Reason.{Reason}
 use Rattle.carrier.specs.declared.state.Reason.TheVariants as reason
 use Rattle.carrier.specs.declared.state.Took.{Took}
-use Rattle.carrier.specs.declared.state.Took.TheVariants.{Used, Ignored}
-use Rattle.carrier.specs.Entries.{Entry, Gave, In, Polled, Pulled, Owed, moment, given}
+use Rattle.carrier.specs.declared.state.Took.TheVariants.{Ignored}
+use Rattle.carrier.specs.Entries.{Entry, In, Polled, Owed, moment, given}
 use Rattle.carrier.specs.Law.{IsBytes, Faithful}
 use Rattle.carrier.specs.Receiving.{has_effect}
 use Rattle.udp1_packets.specs.Layout.{Spells}
 use Rattle.udp1_packets.specs.Reading.{packet_at}
-use Rattle.udp1_packets.specs.Value.{Syn, Body, SynBody, DataBody, FecBody, BareBody, Packet}
+use Rattle.udp1_packets.specs.Value.{Body, SynBody, DataBody, FecBody, BareBody, Packet}
 use Rattle.udp1_packets.proofs.ByteLemmas.{opens_with}
 use Rattle.udp1_packets.proofs.Theorems.{meaning}
 use Rattle.udp1_core.specs.MachineView.{Machine, Stands, layout_of}
@@ -23,7 +23,7 @@ use Rattle.udp_open.specs.declared.settings.OpenSettings.{OpenSettings}
 use Rattle.udp_open.specs.declared.agreement.Agreement.{Agreement}
 use Rattle.udp_open.specs.declared.timer.Timer.{Timer}
 use Rattle.udp_open.specs.Agreeing.{is_syn, shows_syn, is_opening}
-use Rattle.udp_open.specs.Handshake.{shown, packet_or, hears, agreed, agreed_by, owed, owed_by, timer, timer_by, is_asking, is_time, started}
+use Rattle.udp_open.specs.Handshake.{shown, packet_or, hears, agreed, owed, owed_by, timer, timer_by, is_asking, is_time, started}
 use Rattle.udp_open.specs.LinkTrace.{has_syn, layout_by, begins, begins_by, reaches, tells, with_entries, machine, tellings, KeepsMachine, Answers, LinkFaithful}
 use Rattle.udp_open.specs.LinkView.{Link, StandsBy, StandsLink}
 use Rattle.udp_open.specs.OpeningView.{Handshake, Follows}

@@ -1,9 +1,8 @@
 -- What each call does to the relation between a link and its trace.
-use Rattle.std.proofs.Common.{◌≡◌, ℕ, ◌+◌, ◌-◌, ◌<◌, ◌≤◌, Bool, true, false, ◌&&◌, ◌||◌, nat_lt, max, List, [], ◌∷◌, ◌++◌, length, if◌then◌else◌, Option, Some, None, option_map, refl, sym, ap, ◌∙◌, subst, arith}
+use Rattle.std.proofs.Common.{◌≡◌, ℕ, ◌-◌, ◌<◌, ◌≤◌, Bool, true, false, ◌||◌, nat_lt, max, List, [], ◌∷◌, ◌++◌, length, if◌then◌else◌, Option, Some, None, option_map, refl, sym, ap, ◌∙◌, subst, arith}
 use Rattle.std.specs.Option.{IsSome}
 use Rattle.std.proofs.lemmas.Bool.{ltb-false}
 use Rattle.std.proofs.lemmas.List.Elements.{All-append}
-use Rattle.mt_base.specs.declared.kinds.Role.{Role}
 use Rattle.mt_base.specs.Trace.{Trace, Start, ◌▷◌}
 use Rattle.mt_windows.specs.declared.limits.TheConstants.{QUEUE}
 use Rattle.carrier.specs.declared.state.Reason.TheVariants as reason
@@ -13,17 +12,17 @@ use Rattle.carrier.specs.declared.state.LinkState.TheVariants.{Open, Closed}
 use Rattle.carrier.specs.Due.{due}
 use Rattle.carrier.specs.Entries.{Entry, Gave, In, Polled, Pulled, moment, given}
 use Rattle.carrier.specs.Layout.{Layout, Datagram}
-use Rattle.carrier.specs.Law.{IsBytes, Faithful, answered}
+use Rattle.carrier.specs.Law.{IsBytes, Faithful}
 use Rattle.carrier.specs.Sending.{is_closed}
 use Rattle.udp1_core.specs.MachineView.{Machine, Stands, condition_of, layout_of, link_layout}
 use Rattle.udp_open.specs.declared.settings.OpenSettings.{OpenSettings}
 use Rattle.udp_open.specs.declared.agreement.Agreement.{Agreement}
 use Rattle.udp_open.specs.declared.opening.OpenEnd.TheVariants.{Waiting, Agreed}
 use Rattle.udp_open.specs.Handshake.{agreed, opening_answered, opening_due, owed}
-use Rattle.udp_open.specs.LinkTrace.{has_syn, layout_by, begins, copies, tellings, with_entries, machine, answered_by, due_by, Answers}
+use Rattle.udp_open.specs.LinkTrace.{has_syn, layout_by, begins, copies, with_entries, machine, answered_by, due_by}
 use Rattle.udp_open.specs.LinkView.{Link, StandsBy, StandsLink, is_closed_state}
 use Rattle.udp_open.specs.OpeningView.{Handshake, Follows, AnswersFirst, SendsFirst, end_of}
-use Rattle.udp_open.proofs.LinkLemmas.{machine_begins, machine_open, keeps_early, passes_in, ignores_in, passes_poll, opened, Before, before, waits}
+use Rattle.udp_open.proofs.LinkLemmas.{machine_begins, machine_open, keeps_early, passes_in, ignores_in, passes_poll, opened, before, waits}
 
 -- ---- what a link follows of its opening
 
@@ -114,23 +113,29 @@ pub hears_agreeing : (l n : Link) (t : Trace Entry) (now : ℕ) (d : List ℕ) (
     → Stands n.core (with_entries Start (begins (l.opening).settings.role l.early))
     → layout_of n.core ≡ link_layout (l.opening).settings.initial peer version
     → StandsLink l t → StandsLink n (t ▷ In now d took)
-hears_agreeing l n t now d took version peer none same ends follows is stands layout h =
-    let s = (l.opening).settings in
-    let at : agreed s t ≡ None = sym (h.follows).agreement_is ∙ none in
-    let early : l.early ≡ given t = subst (λ o. StandsBy l t o) at h.machine_is in
-    let some = agreeing (n.opening).agreement ends in
-    let a = some.0 in
-    let after : agreed s (t ▷ In now d took) ≡ Some a = ap (λ x. agreed x (t ▷ In now d took)) (sym same) ∙ sym follows.agreement_is ∙ some.1 in
-    let trace : with_entries Start (begins s.role l.early) ≡ machine s (t ▷ In now d took) =
-    ap (λ x. with_entries Start (begins s.role x)) early ∙ sym (machine_begins s t (In now d took) a at after) in
-    opened n s t (In now d took) a same follows after
-    (subst (λ x. took ≡ answered_by s t x d) (sym at) is) h.faithful
-    (subst (λ x. Stands n.core x) trace stands)
-    (layout ∙ ap (λ x. link_layout s.initial x version) (sym some.3) ∙ ap (λ x. link_layout s.initial a.peer_initial x) (sym some.2))
+hears_agreeing l n t now d took version peer none same ends follows is stands layout h = by_agreement (n.opening).agreement refl ends
   where
-    agreeing : (o : Option Agreement) → end_of o ≡ Agreed version peer → (a : Agreement) × (o ≡ Some a) × (a.version ≡ version) × (a.peer_initial ≡ peer)
-    agreeing None h = cc
-    agreeing (Some a) h = (a, refl, cc, cc)
+    s : OpenSettings
+    s = (l.opening).settings
+
+    at : agreed s t ≡ None
+    at = sym (h.follows).agreement_is ∙ none
+
+    e : Entry
+    e = In now d took
+
+    by_agreement : (o : Option Agreement) → (n.opening).agreement ≡ o → end_of o ≡ Agreed version peer → StandsLink n (t ▷ e)
+    by_agreement None some ends = cc
+    by_agreement (Some a) some ends =
+        let after : agreed s (t ▷ e) ≡ Some a = ap (λ x. agreed x (t ▷ e)) (sym same) ∙ sym follows.agreement_is ∙ some in
+        let trace : with_entries Start (begins s.role l.early) ≡ machine s (t ▷ e) =
+        ap (λ x. with_entries Start (begins s.role x)) (subst (λ o. StandsBy l t o) at h.machine_is) ∙ sym (machine_begins s t e a at after) in
+        let version_is : version ≡ a.version = cc in
+        let peer_is : peer ≡ a.peer_initial = cc in
+        opened n s t e a same follows after
+        (subst (λ x. took ≡ answered_by s t x d) (sym at) is) h.faithful
+        (subst (λ x. Stands n.core x) trace stands)
+        (layout ∙ ap (λ x. link_layout s.initial x version) peer_is ∙ ap (λ x. link_layout s.initial a.peer_initial x) version_is)
 
 -- ---- the machine of an open link
 

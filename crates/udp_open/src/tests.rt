@@ -1,9 +1,10 @@
-ghost use Rattle.std.specs.Prelude.{◌<◌, ◌^◌};
+ghost use Rattle.std.specs.Prelude.{◌≡◌, ◌<◌, ◌^◌};
 ghost use Rattle.udp_open.specs.OpeningView.{IsOffered};
 
 use super::*;
-use carrier::{Reason, Refusal1, Took};
-use mt_base::{Kind, Role, Short};
+use carrier::{Carrier, GiveRefusal, LinkState, Reason, Refusal1, Took};
+use mt_base::{Kind, NoMemory, Role, Short};
+use std::alloc::Global;
 use std::test::*;
 
 /// What the SYN of a client with version 0x0002 and the initial number 1 begins with.
@@ -244,4 +245,222 @@ fn a_syn_that_is_never_answered_closes(rt: HostRuntime) {
     );
     assert_eq!(rt; client.end(), OpenEnd::Waiting);
     assert!(rt; is_silent(&mut client, 1_000_000));
+}
+
+/// A reliable link of version 0x0002.
+fn link(alloc: Global, role: Role, initial: u32) -> Result<UdpLink, NoMemory> {
+    let settings = OpenSettings {
+        role,
+        kind: Kind::Reliable,
+        version: 2,
+        initial,
+        cookie_hash: hash_cookie(&[0; 16]),
+    };
+    UdpLink::new(alloc, &settings)
+}
+
+/// What a link sends, and how many bytes of it count; none where it sends nothing.
+fn sent(link: &mut UdpLink, now: u64) -> ([u8; 1232], usize)
+    requires { now < 2 ^ 62 }
+    ensures { result.1 ≤ 1232 }
+{
+    let mut out = [0; 1232];
+    match link.poll(now, &mut out) {
+        Some(length) => (out, length),
+        None => (out, 0),
+    }
+}
+
+/// Hands what a link sends to the other one, and says whether that used it.
+fn carries(from: &mut UdpLink, to: &mut UdpLink, now: u64) -> bool
+    requires { now < 2 ^ 62 }
+{
+    let (out, length) = sent(from, now);
+    to.input(now, &out[..length]) == Took::Used
+}
+
+/// Pulls from a link, and says whether just these bytes came.
+fn pulls(link: &mut UdpLink, bytes: &[u8]) -> bool {
+    let mut out = [0; 64];
+    let length = link.pull(&mut out);
+    out[..length].iter().eq(bytes)
+}
+
+#[test]
+fn bytes_given_early_go_over_a_bad_network(rt: HostRuntime) {
+    let Ok(mut client) = link(rt.alloc(), Role::Client, 1) else {
+        return;
+    };
+    let Ok(mut server) = link(rt.alloc(), Role::Server, 9) else {
+        return;
+    };
+    assert!(rt; client.give(&[0x41, 0x42]).is_ok());
+    assert!(rt; server.give(&[0x43]).is_ok());
+    assert_eq!(rt; client.state(), LinkState::Opening);
+    assert_eq!(rt; client.queued(), 2);
+    assert!(rt; pulls(&mut client, &[]));
+    assert_eq!(rt; client.next_due(), Some(0));
+    assert_eq!(rt; server.next_due(), None);
+
+    // The first SYN is lost, and the second one comes twice.
+    let (syn, length) = sent(&mut client, 0);
+    assert_eq!(rt; length, 1232);
+    assert!(rt; syn == filled(&SYN));
+    assert_eq!(rt; client.next_due(), Some(500));
+    let (syn, length) = sent(&mut client, 500);
+    assert_eq!(rt; server.input(510, &syn[..length]), Took::Used);
+    assert_eq!(rt; server.state(), LinkState::Open);
+    assert_eq!(rt; server.input(511, &syn[..length]), Took::Used);
+
+    // So the server answers twice, and then it sends its bytes.
+    assert_eq!(rt; server.next_due(), Some(511));
+    let (answer, length) = sent(&mut server, 511);
+    assert_eq!(rt; length, 1232);
+    assert!(rt; answer == filled(&SYN_ACK));
+    let (copy, length) = sent(&mut server, 511);
+    assert!(rt; copy == answer);
+    let (data, data_length) = sent(&mut server, 511);
+    assert_eq!(rt; data[..data_length].last().copied(), Some(0x43));
+
+    // They come before the answer, and then the answer comes twice.
+    assert_eq!(rt;
+        client.input(520, &data[..data_length]),
+        Took::Ignored(Reason::NotOpen)
+    );
+    assert_eq!(rt; client.input(530, &answer[..length]), Took::Used);
+    assert_eq!(rt; client.state(), LinkState::Open);
+    assert!(rt; carries(&mut client, &mut server, 530));
+    assert!(rt; pulls(&mut server, &[0x41, 0x42]));
+    assert_eq!(rt; client.input(540, &copy[..length]), Took::Used);
+    assert_eq!(rt; client.next_due(), Some(540));
+
+    // The server's bytes come again after 300 milliseconds.
+    assert!(rt; carries(&mut client, &mut server, 540));
+    assert!(rt; carries(&mut server, &mut client, 811));
+    assert!(rt; pulls(&mut client, &[0x43]));
+    assert!(rt; carries(&mut client, &mut server, 861));
+    assert_eq!(rt; client.queued(), 0);
+    assert_eq!(rt; server.queued(), 0);
+}
+
+#[test]
+fn strangers_do_not_disturb_a_link(rt: HostRuntime) {
+    let Ok(mut server) = link(rt.alloc(), Role::Server, 9) else {
+        return;
+    };
+    let mut lossy = filled(&SYN);
+    lossy[6] = 0x12;
+    assert_eq!(rt; server.input(0, &lossy), Took::Ignored(Reason::WrongKind));
+    let mut hashed = filled(&SYN);
+    hashed[18] = 1;
+    hashed[19] = 1;
+    assert_eq!(rt;
+        server.input(0, &hashed),
+        Took::Ignored(Reason::UnknownCookie)
+    );
+    assert_eq!(rt; server.state(), LinkState::Opening);
+    let (_, length) = sent(&mut server, 0);
+    assert_eq!(rt; length, 0);
+    let Ok(mut client) = link(rt.alloc(), Role::Client, 1) else {
+        return;
+    };
+    assert!(rt; carries(&mut client, &mut server, 0));
+    let mut other = filled(&SYN);
+    other[11] = 2;
+    assert_eq!(rt; server.input(0, &other), Took::Ignored(Reason::NotOurs));
+    assert!(rt; carries(&mut server, &mut client, 0));
+    let mut answer = filled(&SYN_ACK);
+    answer[11] = 8;
+    assert_eq!(rt; client.input(0, &answer), Took::Ignored(Reason::NotOurs));
+    assert_eq!(rt;
+        client.input(0, &filled(&SYN)),
+        Took::Ignored(Reason::NotOurs)
+    );
+    assert!(rt; client.give(&[0x41]).is_ok());
+    assert!(rt; carries(&mut client, &mut server, 0));
+    assert!(rt; pulls(&mut server, &[0x41]));
+}
+
+#[test]
+fn a_link_whose_syn_is_never_answered_closes(rt: HostRuntime) {
+    let Ok(mut client) = link(rt.alloc(), Role::Client, 1) else {
+        return;
+    };
+    assert!(rt; client.give(&[0x41]).is_ok());
+    for _ in 0..17 {
+        let due = client.next_due().unwrap_or(0).min(1_000_000);
+        let (_, length) = sent(&mut client, due);
+        assert_eq!(rt; length, 1232);
+        assert_eq!(rt; client.state(), LinkState::Opening);
+    }
+    assert_eq!(rt; client.next_due(), Some(111_500));
+    let (_, length) = sent(&mut client, 111_500);
+    assert_eq!(rt; length, 0);
+    assert_eq!(rt; client.state(), LinkState::Closed { expiries: 17 });
+    assert_eq!(rt;
+        client.give(&[0x41]),
+        Err(GiveRefusal::Closed { expiries: 17 })
+    );
+    assert_eq!(rt;
+        client.input(111_501, &filled(&SYN_ACK)),
+        Took::Ignored(Reason::LinkClosed)
+    );
+    assert_eq!(rt; client.next_due(), None);
+    let (_, length) = sent(&mut client, 1_000_000);
+    assert_eq!(rt; length, 0);
+}
+
+#[test]
+fn an_open_link_that_hears_nothing_closes(rt: HostRuntime) {
+    let Ok(mut client) = link(rt.alloc(), Role::Client, 1) else {
+        return;
+    };
+    let (_, length) = sent(&mut client, 0);
+    assert_eq!(rt; length, 1232);
+    assert_eq!(rt; client.input(0, &filled(&SYN_ACK)), Took::Used);
+    assert!(rt; client.give(&[0x41]).is_ok());
+    for _ in 0..18 {
+        assert_eq!(rt; client.state(), LinkState::Open);
+        let due = client.next_due().unwrap_or(0).min(1_000_000);
+        let (_, _) = sent(&mut client, due);
+    }
+    assert_eq!(rt; client.state(), LinkState::Closed { expiries: 17 });
+    assert_eq!(rt; client.next_due(), None);
+    assert_eq!(rt;
+        client.input(1_000_000, &filled(&SYN_ACK)),
+        Took::Ignored(Reason::LinkClosed)
+    );
+    assert_eq!(rt;
+        client.give(&[0x41]),
+        Err(GiveRefusal::Closed { expiries: 17 })
+    );
+}
+
+#[test]
+fn numbers_wrap_among_the_first_parts(rt: HostRuntime) {
+    let mut text = [0; 2500];
+    for (place, byte) in (0..=255).cycle().zip(text.iter_mut()) {
+        *byte = place;
+    }
+    for initial in [0, 1, 4_294_967_294, 4_294_967_295] {
+        let Ok(mut client) = link(rt.alloc(), Role::Client, initial) else {
+            return;
+        };
+        let Ok(mut server) = link(rt.alloc(), Role::Server, 4_294_967_295 - initial) else {
+            return;
+        };
+        assert!(rt; client.give(&text).is_ok());
+        assert!(rt; server.give(&text).is_ok());
+        assert!(rt; carries(&mut client, &mut server, 0));
+        assert!(rt; carries(&mut server, &mut client, 0));
+        for now in 0..3 {
+            assert!(rt; carries(&mut client, &mut server, now));
+            assert!(rt; carries(&mut server, &mut client, now));
+        }
+        let mut got = [0; 2600];
+        assert_eq!(rt; server.pull(&mut got), 2500);
+        assert!(rt; got[..2500].iter().eq(&text));
+        assert_eq!(rt; client.pull(&mut got), 2500);
+        assert!(rt; got[..2500].iter().eq(&text));
+    }
 }

@@ -1,4 +1,4 @@
-use Rattle.std.proofs.Common.{sym, ap, ◌∙◌, subst}
+use Rattle.std.proofs.Common.{subst}
 use Rattle.carrier.specs.Entries.{Gave}
 use Rattle.mt_base.specs.Trace.{Start, ◌▷◌}
 use Rattle.udp1_core.specs.MachineView.{Stands}

@@ -1,14 +1,14 @@
-use Rattle.std.proofs.Common.{◌≡◌, ◌<◌, max, true, false, refl, sym, ap, ◌∙◌, subst, arith}
+use Rattle.std.proofs.Common.{◌≡◌, ◌<◌, false, refl, sym, ap, ◌∙◌, subst, arith}
 use Rattle.std.specs.Option.{IsSome}
 use Rattle.std.proofs.lemmas.List.Elements.{All-from_get_or}
-use Rattle.mt_base.specs.Trace.{Trace, ◌▷◌}
-use Rattle.carrier.specs.Entries.{Entry, In}
+use Rattle.mt_base.specs.Trace.{◌▷◌}
+use Rattle.carrier.specs.Entries.{In}
 use Rattle.udp1_core.specs.MachineView.{Stands, condition_of}
 use Rattle.udp_open.specs.LinkTrace.{copies, tellings, with_entries}
 use Rattle.udp_open.specs.LinkView.{Link, StandsLink, is_closed_state}
 use Rattle.udp_open.specs.OpeningView.{Handshake, Follows}
 use Rattle.udp_open.specs.declared.settings.OpenSettings.{OpenSettings}
-use Rattle.udp_open.proofs.LinkSteps.{answers_same, takes_in, ignores, hears_open}
+use Rattle.udp_open.proofs.LinkSteps.{answers_same, takes_in, hears_open}
 use Rattle.udp_open.proofs.link.UdpLink.input_open.Goals as goal
 
 pub returns-then-not-has_syn-clause-trace : goal.returns-then-not-has_syn-clause-trace

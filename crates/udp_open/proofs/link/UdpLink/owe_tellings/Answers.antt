@@ -1,4 +1,4 @@
-use Rattle.std.proofs.Common.{sym, ap, ◌∙◌, subst}
+use Rattle.std.proofs.Common.{sym, ◌∙◌, subst}
 use Rattle.udp1_core.specs.MachineView.{Stands}
 use Rattle.udp_open.specs.LinkTrace.{with_entries, tellings}
 use Rattle.udp_open.specs.LinkView.{Link}
