@@ -1,4 +1,4 @@
-ghost use Rattle.std.specs.Prelude.{◌≡◌, ◌<◌, ◌^◌};
+ghost use Rattle.std.specs.Prelude.{◌<◌, ◌≤◌, ◌^◌};
 ghost use Rattle.udp_open.specs.OpeningView.{IsOffered};
 
 use super::*;
@@ -457,10 +457,10 @@ fn numbers_wrap_among_the_first_parts(rt: HostRuntime) {
             assert!(rt; carries(&mut client, &mut server, now));
             assert!(rt; carries(&mut server, &mut client, now));
         }
-        let mut got = [0; 2600];
+        let mut got = [0; 2500];
         assert_eq!(rt; server.pull(&mut got), 2500);
-        assert!(rt; got[..2500].iter().eq(&text));
+        assert!(rt; got == text);
         assert_eq!(rt; client.pull(&mut got), 2500);
-        assert!(rt; got[..2500].iter().eq(&text));
+        assert!(rt; got == text);
     }
 }

@@ -1,10 +1,10 @@
-use Rattle.std.proofs.Common.{◌≡◌, max, true, false, refl, sym, ap, ◌∙◌, subst, take, option_map}
+use Rattle.std.proofs.Common.{◌≡◌, false, sym, ap, ◌∙◌, subst, take, option_map}
 use Rattle.std.specs.Option.{IsSome}
-use Rattle.mt_base.specs.Trace.{Trace, ◌▷◌}
-use Rattle.carrier.specs.Entries.{Entry, Polled}
+use Rattle.mt_base.specs.Trace.{◌▷◌}
+use Rattle.carrier.specs.Entries.{Polled}
 use Rattle.udp1_core.specs.MachineView.{Stands, condition_of}
 use Rattle.udp_open.specs.LinkView.{Link, StandsLink, is_closed_state}
-use Rattle.udp_open.specs.OpeningView.{Handshake, Follows}
+use Rattle.udp_open.specs.OpeningView.{Handshake}
 use Rattle.udp_open.proofs.LinkSteps.{sends_same, polls_machine, polls_owed}
 use Rattle.udp_open.proofs.link.UdpLink.poll_open.Goals as goal
 

@@ -1,4 +1,4 @@
-use Rattle.std.proofs.Common.{sym, ap, ◌∙◌, subst, take, option_map}
+use Rattle.std.proofs.Common.{sym, ◌∙◌, subst, take, option_map}
 use Rattle.udp_open.proofs.LinkSteps.{none_at, sends_same, polls_waiting}
 use Rattle.udp_open.specs.LinkView.{Link, StandsLink}
 use Rattle.udp_open.proofs.link.UdpLinkCarrier.poll.Goals as goal
