@@ -1,6 +1,6 @@
 -- The trace of a link that opens and then goes on as a machine of the first layout: which of its
 -- calls reach the machine, what is answered and sent, and the law of its traces.
-use Rattle.std.specs.Prelude.{◌≡◌, ℕ, ◌+◌, ◌%◌, ◌≤◌, ◌==◌, Bool, true, false, not, ◌&&◌, nat_lt, max, List, [], ◌∷◌, ◌++◌, length, All, ◌<◌, get_or, if◌then◌else◌, Option, Some, None, is_some}
+use Rattle.std.specs.Prelude.{◌≡◌, ℕ, ◌%◌, ◌≤◌, ◌==◌, Bool, nat_lt, max, List, [], ◌∷◌, length, get_or, if◌then◌else◌, Option, Some, None}
 use Rattle.mt_base.specs.declared.kinds.Role.{Role}
 use Rattle.mt_base.specs.declared.kinds.Role.TheVariants.{Server, Client}
 use Rattle.mt_base.specs.Trace.{Trace, Start, ◌▷◌}
@@ -10,14 +10,13 @@ use Rattle.carrier.specs.declared.state.Took.TheVariants.{Used, Ignored}
 use Rattle.carrier.specs.declared.state.Reason.TheVariants as reason
 use Rattle.carrier.specs.Entries.{Entry, Gave, In, Polled, Pulled, Owed, Posted, Next, moment, given}
 use Rattle.carrier.specs.Layout.{Layout}
-use Rattle.carrier.specs.Receiving.{has_effect}
 use Rattle.carrier.specs.Sending.{is_closed}
 use Rattle.carrier.specs.Due.{due}
 use Rattle.carrier.specs.Law.{IsBytes, answered, Faithful}
 use Rattle.udp1_core.specs.MachineView.{link_layout}
 use Rattle.udp_open.specs.declared.settings.OpenSettings.{OpenSettings}
 use Rattle.udp_open.specs.declared.agreement.Agreement.{Agreement}
-use Rattle.udp_open.specs.Handshake.{agreed, opening_answered, opening_due, owed, is_closed as is_opening_closed}
+use Rattle.udp_open.specs.Handshake.{agreed, opening_answered, opening_due, owed}
 
 -- ---- the machine of a link
 

@@ -1,5 +1,4 @@
 use Rattle.mt_base.specs.declared.kinds.Role.TheVariants.{Server, Client}
-use Rattle.udp_open.specs.TwoLinks.{settings_by}
 use Rattle.udp_open.proofs.links.Joined.{links_join}
 use Rattle.udp_open.proofs.joined.pulled_was_given.Goals as goal
 
