@@ -26,6 +26,7 @@ pub trait FileStore {
     fn read(&mut self, name: &str, at: u64, out: &mut [u8]) -> Result<usize, Failed>
         ensures never_falls { faults self.old ≤ faults self.new }
         ensures cause { OnErr result (Rose (faults self.old) (faults self.new)) }
+        ensures counts { OnOk result (faults self.new ≡ faults self.old) }
         ensures bound { IfOk result (λ n. n ≤ length out.new) }
         ensures bytes { (content : List ℕ) → Holds (told self.old) name.now content →
             IfOk result (λ n. Reads content at n out.new) }
@@ -37,6 +38,7 @@ pub trait FileStore {
     fn create(&mut self, name: &str) -> Result<(), Failed>
         ensures never_falls { faults self.old ≤ faults self.new }
         ensures cause { OnErr result (Rose (faults self.old) (faults self.new)) }
+        ensures counts { OnOk result (faults self.new ≡ faults self.old) }
         ensures emptied { OnOk result
             (told self.new ≡ option_map (emptied name.now) (told self.old)) }
         ensures same { OnErr result (told self.new ≡ told self.old) }
@@ -47,6 +49,7 @@ pub trait FileStore {
     fn append(&mut self, name: &str, bytes: &[u8]) -> Result<(), Failed>
         ensures never_falls { faults self.old ≤ faults self.new }
         ensures cause { OnErr result (Rose (faults self.old) (faults self.new)) }
+        ensures counts { OnOk result (faults self.new ≡ faults self.old) }
         ensures grown { OnOk result
             (told self.new ≡ option_map (grown name.now bytes.now) (told self.old)) }
         ensures prefix { (k : ℕ) ×

@@ -106,6 +106,7 @@ impl FileStore for MemoryFiles {
     fn read(&mut self, name: &str, at: u64, out: &mut [u8]) -> Result<usize, Failed>
         ensures never_falls { self.old.faults ≤ self.new.faults }
         ensures cause { OnErr result (Rose self.old.faults self.new.faults) }
+        ensures counts { OnOk result (self.new.faults ≡ self.old.faults) }
         ensures bound { IfOk result (λ n. n ≤ length out.new) }
         ensures bytes { (content : List ℕ) →
             Holds (Some (file_of self.old.files)) name.now content →
@@ -117,7 +118,6 @@ impl FileStore for MemoryFiles {
         ensures answers { IsTrue (not (fails_at self.old.fails self.old.next)) →
             (content : List ℕ) → Holds (Some (file_of self.old.files)) name.now content → IsOk result }
         ensures files { self.new.files ≡ self.old.files }
-        ensures counts { OnOk result (self.new.faults ≡ self.old.faults) }
         ensures fails { self.new.fails ≡ self.old.fails }
         ensures next { self.new.next ≡ min (self.old.next + 1) (2 ^ 64 - 1) }
     {
@@ -131,13 +131,13 @@ impl FileStore for MemoryFiles {
     fn create(&mut self, name: &str) -> Result<(), Failed>
         ensures never_falls { self.old.faults ≤ self.new.faults }
         ensures cause { OnErr result (Rose self.old.faults self.new.faults) }
+        ensures counts { OnOk result (self.new.faults ≡ self.old.faults) }
         ensures emptied { OnOk result (Some (file_of self.new.files) ≡
             option_map (emptied name.now) (Some (file_of self.old.files))) }
         ensures same { OnErr result
             (Some (file_of self.new.files) ≡ Some (file_of self.old.files)) }
         ensures name { Some self.new.names ≡ added (Some self.old.names) (name.now ∷ []) }
         ensures planned { IsTrue (fails_at self.old.fails self.old.next) → IsErr result }
-        ensures counts { OnOk result (self.new.faults ≡ self.old.faults) }
         ensures fails { self.new.fails ≡ self.old.fails }
         ensures next { self.new.next ≡ min (self.old.next + 1) (2 ^ 64 - 1) }
     {
@@ -151,6 +151,7 @@ impl FileStore for MemoryFiles {
     fn append(&mut self, name: &str, bytes: &[u8]) -> Result<(), Failed>
         ensures never_falls { self.old.faults ≤ self.new.faults }
         ensures cause { OnErr result (Rose self.old.faults self.new.faults) }
+        ensures counts { OnOk result (self.new.faults ≡ self.old.faults) }
         ensures grown { OnOk result (Some (file_of self.new.files) ≡
             option_map (grown name.now bytes.now) (Some (file_of self.old.files))) }
         ensures prefix { (k : ℕ) × (Some (file_of self.new.files) ≡
@@ -159,7 +160,6 @@ impl FileStore for MemoryFiles {
         ensures name { Some self.new.names ≡ added (Some self.old.names) (name.now ∷ []) }
         ensures planned { IsTrue (fails_at self.old.fails self.old.next) → IsErr result }
         ensures same { OnErr result (self.new.files ≡ self.old.files) }
-        ensures counts { OnOk result (self.new.faults ≡ self.old.faults) }
         ensures fails { self.new.fails ≡ self.old.fails }
         ensures next { self.new.next ≡ min (self.old.next + 1) (2 ^ 64 - 1) }
     {

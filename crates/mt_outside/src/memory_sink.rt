@@ -61,6 +61,7 @@ impl Sink for MemorySink {
     fn write(&mut self, bytes: &[u8]) -> Result<usize, Failed>
         ensures never_falls { self.old.faults ≤ self.new.faults }
         ensures cause { OnErr result (Rose self.old.faults self.new.faults) }
+        ensures counts { OnOk result (self.new.faults ≡ self.old.faults) }
         ensures bound { IfOk result (λ n. n ≤ length bytes.now) }
         ensures some { IfOk result (λ n. 0 < length bytes.now → 0 < n) }
         ensures took { IfOk result (λ n.
@@ -68,7 +69,6 @@ impl Sink for MemorySink {
         ensures same { OnErr result (Some self.new.bytes ≡ Some self.old.bytes) }
         ensures whole { IfOk result (λ n. n ≡ length bytes.now) }
         ensures planned { IsTrue (fails_at self.old.fails self.old.next) → IsErr result }
-        ensures counts { OnOk result (self.new.faults ≡ self.old.faults) }
         ensures fails { self.new.fails ≡ self.old.fails }
         ensures next { self.new.next ≡ min (self.old.next + 1) (2 ^ 64 - 1) }
     {

@@ -28,6 +28,7 @@ pub fn read_file<F: FileStore>(
     ensures never_falls { F.faults files.old ≤ F.faults files.new }
     ensures cause { IsErrOf result ReadFault.Failed →
         Rose (F.faults files.old) (F.faults files.new) }
+    ensures counts { ¬ IsErrOf result ReadFault.Failed → F.faults files.new ≡ F.faults files.old }
     ensures content { (content : List ℕ) → Holds (F.told files.old) name.now content →
         IfOk result (λ bytes. bytes.items ≡ content) }
     ensures missing { Lacks (F.told files.old) name.now → IsErrOf result ReadFault.Failed }
@@ -61,6 +62,7 @@ pub fn read_file<F: FileStore>(
 pub fn write_all<K: Sink>(sink: &mut K, bytes: &[u8]) -> Result<(), Failed>
     ensures never_falls { K.faults sink.old ≤ K.faults sink.new }
     ensures cause { OnErr result (Rose (K.faults sink.old) (K.faults sink.new)) }
+    ensures counts { OnOk result (K.faults sink.new ≡ K.faults sink.old) }
     ensures all { OnOk result (K.written sink.new ≡ added (K.written sink.old) bytes.now) }
     ensures prefix { OnErr result ((k : ℕ) × (k < length bytes.now) ×
         (K.written sink.new ≡ added (K.written sink.old) (take k bytes.now))) }

@@ -1,6 +1,7 @@
 -- What follows from a row of the table.
 use Rattle.std.proofs.Common.{◌≡◌, ◌≢◌, ℕ, ◌≤◌, ◌⊎◌, inl, inr, List, [], ◌∷◌, length, codes, Option, Result, Ok, Err, sym, ap, ◌∙◌, subst, arith}
 use Rattle.std.specs.List.{All}
+use Rattle.std.specs.Prelude.{IsErrOf}
 use Rattle.std.proofs.lemmas.Slice.Eq.{bytes_eq-Decides}
 use Rattle.mt_base.specs.declared.kinds.Role.{Role}
 use Rattle.mt_base.specs.Trace.{Trace}
@@ -87,6 +88,10 @@ module _ {ws : List (List ℕ)} {told : Option Contents} {before after answer : 
         | inr h ↦ absurd (omega (arith, h.0, zero))
       ]
 
+  -- with any other answer than 4 the sink met no fault
+  pub calm_sink : Ended ws told before after answer old new sink_before sink_after → answer ≢ 4 → sink_after ≡ sink_before
+  calm_sink e other = elim e.printed [ inl h ↦ h.2 | inr h ↦ absurd (other h.0) ]
+
   -- a fact of the status that is answered, where it holds of 4 and of the row's status
   pub either : Ended ws told before after answer old new sink_before sink_after → (P : ℕ → Type 0) → ((status : ℕ) (output : List ℕ) → Row ws told before after status output → P status) → (Rose sink_before sink_after → P 4) → P answer
   either e P of_row of_four =
@@ -94,6 +99,14 @@ module _ {ws : List (List ℕ)} {told : Option Contents} {before after answer : 
         | inl h ↦ subst P (sym h.0) (of_row e.status e.output e.row)
         | inr h ↦ subst P (sym h.0) (of_four h.1)
       ]
+
+-- with any other answer than 3 and 4 the store met no fault
+pub calm_store : (result : Result (List ℕ) Fault) (before after answer : ℕ) (old new : Option (List ℕ)) (sink_before sink_after : ℕ) → (¬ IsErrOf result File → after ≡ before)
+    → (status : ℕ) × (output : List ℕ) × Tells result status output × Printed status output answer old new sink_before sink_after → answer ≢ 3 → answer ≢ 4 → after ≡ before
+calm_store result before after answer old new sink_before sink_after kept t three four =
+    kept (λ is.
+        let told : Tells (Err File) t.0 t.1 = subst (λ (r : Result (List ℕ) Fault). Tells r t.0 t.1) is t.2 in
+        elim t.3 [ inl h ↦ three (h.0 ∙ told.0) | inr h ↦ four h.0 ])
 
 -- words that report are those of a command, and so are words of which a line is refused
 command_reports : {ws : List (List ℕ)} {told : Option Contents} {output : List ℕ} → Reports ws told output → IsCommand ws

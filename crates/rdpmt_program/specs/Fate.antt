@@ -100,8 +100,8 @@ Tells (Err File) status output = (status ≡ 3) × (output ≡ file_fault_line)
 Tells (Err NoMemory) status output = (status ≡ 9) × (output ≡ no_memory_line)
 Tells (Err Limit) status output = (status ≡ 11) × (output ≡ limit_line)
 
--- The whole output was written and the status is the answer, or the sink failed: a front of the
--- output was written, and the answer is 4.
+-- The whole output was written with no fault and the status is the answer, or the sink failed: a
+-- front of the output was written, and the answer is 4.
 abbrev pub Printed : (status : ℕ) (output : List ℕ) (answer : ℕ) (old new : Option (List ℕ)) (before after : ℕ) → Type 0
 Printed status output answer old new before after =
-    ((answer ≡ status) × (new ≡ added old output)) ⊎ ((answer ≡ 4) × Rose before after × (k : ℕ) × (new ≡ added old (take k output)))
+    ((answer ≡ status) × (new ≡ added old output) × (after ≡ before)) ⊎ ((answer ≡ 4) × Rose before after × (k : ℕ) × (new ≡ added old (take k output)))

@@ -1,6 +1,6 @@
 //! The command `play`: a script is read and played.
 
-ghost use Rattle.std.specs.Prelude.{◌≡◌, ℕ, List, replicate};
+ghost use Rattle.std.specs.Prelude.{◌≡◌, ℕ, List, replicate, IsErrOf};
 ghost use Rattle.mt_world.specs.Play.{start, play};
 ghost use Rattle.mt_outside.specs.Told.{added};
 ghost use Rattle.rdpmt_program.specs.Command.{IsPlay};
@@ -45,6 +45,7 @@ pub(crate) fn play_script<F: FileStore>(
     name: &str,
 ) -> Result<Text, Fault>
     ensures cause { (words : List (List ℕ)) → IsPlay words name.now → Runs words (F.told files.old) (F.faults files.old) (F.faults files.new) result }
+    ensures counts { ¬ IsErrOf result Fault.File → F.faults files.new ≡ F.faults files.old }
     ensures names { (k : ℕ) × (F.named files.new ≡ added (F.named files.old) (replicate k name.now)) }
     ensures same { F.told files.new ≡ F.told files.old }
 {

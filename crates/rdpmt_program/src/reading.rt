@@ -1,7 +1,7 @@
 //! What the commands that read a file share: its text, and what is printed of a line of it that is
 //! refused.
 
-ghost use Rattle.std.specs.Prelude.{◌≡◌, ℕ, replicate};
+ghost use Rattle.std.specs.Prelude.{◌≡◌, ℕ, replicate, IsErrOf};
 ghost use Rattle.mt_outside.specs.Told.{added};
 ghost use Rattle.rdpmt_program.specs.Script.{refused_line};
 ghost use Rattle.rdpmt_program.specs.Fate.{ReadsText, Refuses};
@@ -21,6 +21,7 @@ pub(crate) fn read_text<F: FileStore>(
     name: &str,
 ) -> Result<Text, Fault>
     ensures cause { ReadsText (F.told files.old) name.now (F.faults files.old) (F.faults files.new) result }
+    ensures counts { ¬ IsErrOf result Fault.File → F.faults files.new ≡ F.faults files.old }
     ensures names { (k : ℕ) × (F.named files.new ≡ added (F.named files.old) (replicate k name.now)) }
     ensures same { F.told files.new ≡ F.told files.old }
 {

@@ -1,6 +1,6 @@
 //! The command `show`: the datagrams of a show file are shown.
 
-ghost use Rattle.std.specs.Prelude.{◌≡◌, ℕ, List, replicate};
+ghost use Rattle.std.specs.Prelude.{◌≡◌, ℕ, List, replicate, IsErrOf};
 ghost use Rattle.mt_outside.specs.Told.{added};
 ghost use Rattle.rdpmt_program.specs.Command.{IsShow};
 ghost use Rattle.rdpmt_program.specs.Fate.{GivesShown, Runs};
@@ -19,6 +19,7 @@ pub(crate) fn show_file<F: FileStore>(
     name: &str,
 ) -> Result<Text, Fault>
     ensures cause { (words : List (List ℕ)) → IsShow words name.now → Runs words (F.told files.old) (F.faults files.old) (F.faults files.new) result }
+    ensures counts { ¬ IsErrOf result Fault.File → F.faults files.new ≡ F.faults files.old }
     ensures names { (k : ℕ) × (F.named files.new ≡ added (F.named files.old) (replicate k name.now)) }
     ensures same { F.told files.new ≡ F.told files.old }
 {

@@ -1,6 +1,6 @@
 //! The whole program, over its devices.
 
-ghost use Rattle.std.specs.Prelude.{◌≡◌, ◌≢◌, ◌⊎◌, ℕ, List};
+ghost use Rattle.std.specs.Prelude.{◌≡◌, ◌≢◌, ◌⊎◌, ℕ, List, IsErrOf};
 ghost use Rattle.mt_outside.specs.Faults.{Rose};
 ghost use Rattle.rdpmt_program.specs.Command.{words_of, IsPlay, IsShow, AsksFor, IsCommand};
 ghost use Rattle.rdpmt_program.specs.Script.{IsTooLong};
@@ -37,6 +37,10 @@ pub fn rdpmt<F: FileStore, K: Sink>(
     ensures sink { result ≡ 4 → Rose (K.faults out.old) (K.faults out.new) }
     ensures front { result ≡ 4 → (status : ℕ) × WritesFront (Row (words_of words.now.items) (F.told files.old) (F.faults files.old) (F.faults files.new) status) (K.written out.old) (K.written out.new) }
 
+    // A fault of a device is never overcome: a count that rose shows in the status.
+    ensures no_file_fault_is_overcome { result ≢ 3 → result ≢ 4 → F.faults files.new ≡ F.faults files.old }
+    ensures no_sink_fault_is_overcome { result ≢ 4 → K.faults out.new ≡ K.faults out.old }
+
     // Where the words are no command's, and where a file passes a limit, nothing else comes.
     ensures usage { ¬ IsCommand (words_of words.now.items) → (result ≡ 1) ⊎ (result ≡ 4) }
     ensures limit { (text : List ℕ) → Names (AsksFor (words_of words.now.items)) (F.told files.old) text → IsTooLong text → (result ≡ 11) ⊎ (result ≡ 3) ⊎ (result ≡ 4) ⊎ (result ≡ 9) }
@@ -58,6 +62,7 @@ pub fn rdpmt<F: FileStore, K: Sink>(
 /// Runs the command that the words are.
 fn run<F: FileStore>(alloc: Global, words: &Vec<String>, files: &mut F) -> Result<Text, Fault>
     ensures cause { Runs (words_of words.now.items) (F.told files.old) (F.faults files.old) (F.faults files.new) result }
+    ensures counts { ¬ IsErrOf result Fault.File → F.faults files.new ≡ F.faults files.old }
     ensures names { AskedFor (words_of words.now.items) (F.named files.old) (F.named files.new) }
     ensures same { F.told files.new ≡ F.told files.old }
 {

@@ -35,7 +35,7 @@ pub loop-count-preserved : goal.loop-count-preserved
 loop-count-preserved g c =
     let before = c.loop-count.invariant.4 in
     let longer : vec_len c.extend_from_slice.new.self ≡ vec_len c.loop-count.bytes + c.in-Ok.count = grind (arith, common_steps, c.in-Ok-extend_from_slice.ensures) in (
-      omega (arith, c.loop-count.invariant.0, c.read.ensures.never_falls),
+      c.in-Ok.ensures.counts ∙ c.loop-count.invariant.0,
       c.read.ensures.same ∙ c.loop-count.invariant.1,
       omega (arith, c.if-count-limit.false, c.loop-count.invariant.2, c.len-length.ensures, longer),
       (λ content holds.

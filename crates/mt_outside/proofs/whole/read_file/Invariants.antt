@@ -6,7 +6,7 @@ use Rattle.mt_outside.proofs.whole.read_file.Given as goal
 -- the bytes so far are the front of a told content, and no file changed
 abbrev pub invariant-loop-count : goal.invariant-loop-count
 invariant-loop-count g l =
-    (g.F.FileStore.faults l.initial.files ≤ g.F.FileStore.faults l.files)
+    (g.F.FileStore.faults l.files ≡ g.F.FileStore.faults l.initial.files)
     × (g.F.FileStore.told l.files ≡ g.F.FileStore.told l.initial.files)
     × (vec_len l.bytes ≤ l.limit)
     × ((content : List ℕ) → Holds (g.F.FileStore.told l.initial.files) l.name content → (vec_len l.bytes ≤ length content) × (l.bytes.items ≡ take (vec_len l.bytes) content))

@@ -1,4 +1,4 @@
-use Rattle.std.proofs.Common.{◌≤◌, arith, rules}
+use Rattle.std.proofs.Common.{◌∙◌, rules}
 use Rattle.std.proofs.lemmas.Grind.{common_steps}
 use Rattle.mt_outside.proofs.Pieces.{writes_on}
 use Rattle.mt_outside.proofs.whole.write_all.Goals as goal
@@ -6,6 +6,5 @@ use Rattle.mt_outside.proofs.whole.write_all.Goals as goal
 pub loop-rest-preserved : goal.loop-rest-preserved
 loop-rest-preserved g c =
     let i = c.loop-rest.invariant in
-    let later : g.K.Sink.faults c.args.sink.now ≤ g.K.Sink.faults c.write.new.self = omega (arith, i.0, c.in_ok-taken.ensures.never_falls) in
     let on = writes_on _ _ _ c.args.bytes.now c.loop-rest.rest.now _ _ i.1 i.2 i.3 c.in_ok-taken.ensures.bound c.in_ok-taken.ensures.took (search (rules, common_steps)) in
-    (later, on.0, on.1, on.2)
+    (c.in_ok-taken.ensures.counts ∙ i.0, on.0, on.1, on.2)

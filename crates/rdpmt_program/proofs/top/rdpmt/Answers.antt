@@ -1,5 +1,5 @@
 use Rattle.std.proofs.Common.{◌≡◌, ◌⊎◌, inl, inr, refl}
-use Rattle.rdpmt_program.proofs.Rows.{ended_of, answered, not_printed, front_printed, played_to_end, either, of_usage, of_limit, of_complete, of_complete_show}
+use Rattle.rdpmt_program.proofs.Rows.{ended_of, answered, not_printed, calm_sink, calm_store, front_printed, played_to_end, either, of_usage, of_limit, of_complete, of_complete_show}
 use Rattle.rdpmt_program.proofs.top.rdpmt.Goals as goal
 
 pub returns-clause-answer : goal.returns-clause-answer
@@ -13,6 +13,12 @@ returns-clause-front g c = front_printed (ended_of _ _ _ _ c.run-ended.result _ 
 
 pub returns-clause-done : goal.returns-clause-done
 returns-clause-done g c = played_to_end (ended_of _ _ _ _ c.run-ended.result _ _ _ _ _ c.run-ended.ensures.cause c.tell.ensures)
+
+pub returns-clause-no_file_fault_is_overcome : goal.returns-clause-no_file_fault_is_overcome
+returns-clause-no_file_fault_is_overcome g c = calm_store c.run-ended.result _ _ _ _ _ _ _ c.run-ended.ensures.counts c.tell.ensures
+
+pub returns-clause-no_sink_fault_is_overcome : goal.returns-clause-no_sink_fault_is_overcome
+returns-clause-no_sink_fault_is_overcome g c = calm_sink (ended_of _ _ _ _ c.run-ended.result _ _ _ _ _ c.run-ended.ensures.cause c.tell.ensures)
 
 pub returns-clause-usage : goal.returns-clause-usage
 returns-clause-usage g c = λ foreign.
