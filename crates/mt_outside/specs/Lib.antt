@@ -1,5 +1,6 @@
 pub mod Faults
 pub mod Told
 pub mod Files
+pub mod Reading
 pub mod Memory
 pub mod Shelf

@@ -3,7 +3,7 @@
 //! machine, which tells nothing.
 //!
 //! Below it stand `std` and `mt_base`. What the crates above use are the clauses of the traits: a
-//! count of faults that never falls and rises where a call fails, and what a device tells of its
+//! count of faults that rises where a call fails and nowhere else, and what a device tells of its
 //! bytes, where it tells it. `read_file` and `write_all` carry them over whole files and texts.
 #![tactic(auto)]
 
@@ -14,6 +14,7 @@ mod memory_files;
 mod memory_sink;
 mod names;
 mod plan;
+mod reading;
 mod real_files;
 mod real_sink;
 mod shelf;

@@ -1,23 +1,16 @@
 //! The machine's files as a store.
 
-ghost use Rattle.std.specs.Prelude.{◌≡◌, None};
+ghost use Rattle.std.specs.Prelude.{◌≡◌, None, string_bytes, IfOk};
 
 use crate::failed::Failed;
 use crate::faults::Faults;
 use crate::files::FileStore;
+use crate::reading::Reading;
 use std::alloc::Global;
 use std::fs;
 use std::fs::OpenOptions;
-use std::io::{Read, Seek, SeekFrom, Write};
+use std::io::Write;
 use std::rt::Files;
-
-/// A file that is being read, and the place that it has reached.
-#[derive(Drop)]
-struct Reading<F> {
-    name: String,
-    at: u64,
-    file: F,
-}
 
 /// The runtime's files. It tells nothing of what they hold. The file that was read last stays open,
 /// so that one file is read piece by piece in one pass.
@@ -41,29 +34,23 @@ impl<'a, R: Files> RealFiles<'a, R> {
         }
     }
 
-    /// The file of this name, opened at the place `at`; the one that is open where it is that one.
-    fn open_at(&mut self, name: &str, at: u64) -> Result<Reading<R::File>, Failed>
-        ensures { self.new.faults.count ≡ self.old.faults.count }
+    /// The file of this name, for reading; the one that is open where it is that one.
+    fn open(&mut self, name: &str) -> Result<Reading<R::File>, Failed>
+        ensures counts { self.new.faults.count ≡ self.old.faults.count }
+        ensures name { IfOk result (λ reading. string_bytes reading.name ≡ name.now) }
     {
-        if let Some(mut reading) = self.reading.take() {
+        if let Some(reading) = self.reading.take() {
             if reading.name.as_str() == name {
-                if reading.at != at && reading.file.seek(SeekFrom::Start(at)).is_err() {
-                    return Err(Failed);
-                }
-                reading.at = at;
                 return Ok(reading);
             }
         }
         let Ok(name) = String::from_str(self.alloc, name) else {
             return Err(Failed);
         };
-        let Ok(mut file) = fs::open(self.rt, name.as_str()) else {
+        let Ok(file) = fs::open(self.rt, name.as_str()) else {
             return Err(Failed);
         };
-        if file.seek(SeekFrom::Start(at)).is_err() {
-            return Err(Failed);
-        }
-        Ok(Reading { name, at, file })
+        Ok(Reading::new(name, file))
     }
 }
 
@@ -75,13 +62,12 @@ impl<R: Files> FileStore for RealFiles<'_, R> {
     ghost named = { λ _. None };
 
     fn read(&mut self, name: &str, at: u64, out: &mut [u8]) -> Result<usize, Failed> {
-        let Ok(mut reading) = self.open_at(name, at) else {
+        let Ok(mut reading) = self.open(name) else {
             return Err(self.faults.raise());
         };
-        let Ok(count) = reading.file.read(out) else {
+        let Ok(count) = reading.read_at(at, out) else {
             return Err(self.faults.raise());
         };
-        reading.at = at.saturating_add(count as u64);
         self.reading = Some(reading);
         Ok(count)
     }

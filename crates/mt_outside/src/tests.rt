@@ -1,5 +1,9 @@
+ghost use Rattle.mt_outside.specs.Reading.{IsFile};
+
 use super::*;
+use crate::reading::Reading;
 use mt_base::NoMemory;
+use std::io::{Cursor, Read, Seek};
 use std::test::*;
 use std::{env, fs, process};
 
@@ -150,6 +154,62 @@ fn real_files_are_made_written_and_read(rt: HostRuntime) -> Result<(), Fail> {
         .create("")
         .err()
         .ok_or("a file without a name was made")?;
+    Ok(())
+}
+
+#[test]
+fn a_real_file_is_read_past_a_gap_and_back(rt: HostRuntime) -> Result<(), Fail> {
+    let folder = env::temp_dir(&rt)?;
+    let path = format!(in rt.alloc();
+        "{}/mt_outside-gap-{}",
+        folder.display(),
+        process::id(rt.process())
+    )?;
+    let mut files = RealFiles::new(&rt, rt.alloc());
+    files.create(path.as_str())?;
+    files.append(path.as_str(), b"abcdefghij")?;
+    let rows = [
+        (0u64, 2usize, "ab"),
+        (6, 2, "gh"),
+        (8, 4, "ij"),
+        (1, 3, "bcd"),
+        (4, 1, "e"),
+        (12, 4, ""),
+        (3, 4, "defg"),
+    ];
+    for (at, room, want) in rows {
+        let mut piece = [0u8; 4];
+        let count = files.read(path.as_str(), at, &mut piece[..room]);
+        assert_eq!(rt; count, Ok(want.len()), "from {at}");
+        assert!(rt; piece.starts_with(want.as_bytes()), "from {at}");
+    }
+    fs::remove_file(&rt, path.as_str())?;
+    Ok(())
+}
+
+/// A cursor gives the bytes from its position on, as a reading asks of a type of files.
+fn cursors_are_files()
+    ensures { IsFile ⟦<Cursor<Vec<u8>> as Read>⟧.remaining ⟦<Cursor<Vec<u8>> as Seek>⟧.stream_position ⟦<Cursor<Vec<u8>> as Seek>⟧.stream_bytes }
+{}
+
+#[test]
+fn a_cursor_is_read_past_a_gap_and_back(rt: HostRuntime) -> Result<(), Fail> {
+    cursors_are_files();
+    let bytes = Vec::from_slice(rt.alloc(), b"abcdefghij")?;
+    let mut reading = Reading::new(String::from_str(rt.alloc(), "a")?, Cursor::new(bytes));
+    for (at, want) in [
+        (0u64, "abcd"),
+        (6, "ghij"),
+        (1, "bcde"),
+        (5, "fghi"),
+        (9, "j"),
+        (12, ""),
+    ] {
+        let mut piece = [0u8; 4];
+        let count = reading.read_at(at, &mut piece);
+        assert_eq!(rt; count, Ok(want.len()), "from {at}");
+        assert!(rt; piece.starts_with(want.as_bytes()), "from {at}");
+    }
     Ok(())
 }
 

@@ -105,8 +105,8 @@ pub calm_store : (result : Result (List ℕ) Fault) (before after answer : ℕ) 
     → (status : ℕ) × (output : List ℕ) × Tells result status output × Printed status output answer old new sink_before sink_after → answer ≢ 3 → answer ≢ 4 → after ≡ before
 calm_store result before after answer old new sink_before sink_after kept t three four =
     kept (λ is.
-        let told : Tells (Err File) t.0 t.1 = subst (λ (r : Result (List ℕ) Fault). Tells r t.0 t.1) is t.2 in
-        elim t.3 [ inl h ↦ three (h.0 ∙ told.0) | inr h ↦ four h.0 ])
+    let told : Tells (Err File) t.0 t.1 = subst (λ (r : Result (List ℕ) Fault). Tells r t.0 t.1) is t.2 in
+    elim t.3 [ inl h ↦ three (h.0 ∙ told.0) | inr h ↦ four h.0 ])
 
 -- words that report are those of a command, and so are words of which a line is refused
 command_reports : {ws : List (List ℕ)} {told : Option Contents} {output : List ℕ} → Reports ws told output → IsCommand ws

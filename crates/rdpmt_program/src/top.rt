@@ -23,7 +23,7 @@ use std::alloc::Global;
 /// Each status but 4 comes by its row of the table, and all of the row's output is printed; 4 is
 /// for a sink that fails, which then took a front of some row's output. No file changes, and the
 /// store is asked for the named file alone. Want of memory, 9, may come in place of any other answer
-/// to the words of a command.
+/// to the words of a command, but never where the store's count of faults rose.
 pub fn rdpmt<F: FileStore, K: Sink>(
     alloc: Global,
     words: &Vec<String>,
@@ -37,7 +37,7 @@ pub fn rdpmt<F: FileStore, K: Sink>(
     ensures sink { result ≡ 4 → Rose (K.faults out.old) (K.faults out.new) }
     ensures front { result ≡ 4 → (status : ℕ) × WritesFront (Row (words_of words.now.items) (F.told files.old) (F.faults files.old) (F.faults files.new) status) (K.written out.old) (K.written out.new) }
 
-    // A fault of a device is never overcome: a count that rose shows in the status.
+    // No fault of a device is overcome: a count that rose shows in the status.
     ensures no_file_fault_is_overcome { result ≢ 3 → result ≢ 4 → F.faults files.new ≡ F.faults files.old }
     ensures no_sink_fault_is_overcome { result ≢ 4 → K.faults out.new ≡ K.faults out.old }
 
