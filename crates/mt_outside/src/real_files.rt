@@ -1,6 +1,9 @@
 //! The machine's files as a store.
 
-ghost use Rattle.std.specs.Prelude.{◌≡◌, None, string_bytes, IfOk};
+ghost use Rattle.std.specs.Prelude.{◌≡◌, ℕ, ◌≤◌, List, None, string_bytes, length, IfOk, OnOk};
+ghost use Rattle.mt_outside.specs.Files.{Reads};
+ghost use Rattle.mt_outside.specs.Reading.{StandsAt, Reaches};
+ghost use Rattle.mt_outside.specs.declared.reading.Reading.{Reading};
 
 use crate::failed::Failed;
 use crate::faults::Faults;
@@ -34,10 +37,34 @@ impl<'a, R: Files> RealFiles<'a, R> {
         }
     }
 
+    /// Reads bytes of the file of this name, and keeps it open behind them.
+    ///
+    /// Where that file is the one that is open and tells its bytes, they are those at the place.
+    fn read_open(&mut self, name: &str, at: u64, out: &mut [u8]) -> Result<usize, Failed>
+        ensures counts { self.new.faults.count ≡ self.old.faults.count }
+        ensures bound { IfOk result (λ n. n ≤ length out.new) }
+        ensures bytes { (kept : Reading R.File) (content : List ℕ) →
+            self.old.reading ≡ Some kept → string_bytes kept.name ≡ name.now →
+            Reaches R.File.remaining R.File.stream_position R.File.stream_bytes kept.file content kept.at at →
+            IfOk result (λ n. Reads content at n out.new) }
+        ensures stands { (kept : Reading R.File) (content : List ℕ) →
+            self.old.reading ≡ Some kept → string_bytes kept.name ≡ name.now →
+            Reaches R.File.remaining R.File.stream_position R.File.stream_bytes kept.file content kept.at at →
+            OnOk result ((next : Reading R.File) × (self.new.reading ≡ Some next) × (string_bytes next.name ≡ name.now)
+            × StandsAt (R.File.remaining next.file) content next.at) }
+    {
+        let mut reading = self.open(name)?;
+        let count = reading.read_at(at, out)?;
+        self.reading = Some(reading);
+        Ok(count)
+    }
+
     /// The file of this name, for reading; the one that is open where it is that one.
     fn open(&mut self, name: &str) -> Result<Reading<R::File>, Failed>
         ensures counts { self.new.faults.count ≡ self.old.faults.count }
         ensures name { IfOk result (λ reading. string_bytes reading.name ≡ name.now) }
+        ensures kept { (kept : Reading R.File) → self.old.reading ≡ Some kept →
+            string_bytes kept.name ≡ name.now → result ≡ Ok kept }
     {
         if let Some(reading) = self.reading.take() {
             if reading.name.as_str() == name {
@@ -62,14 +89,10 @@ impl<R: Files> FileStore for RealFiles<'_, R> {
     ghost named = { λ _. None };
 
     fn read(&mut self, name: &str, at: u64, out: &mut [u8]) -> Result<usize, Failed> {
-        let Ok(mut reading) = self.open(name) else {
-            return Err(self.faults.raise());
-        };
-        let Ok(count) = reading.read_at(at, out) else {
-            return Err(self.faults.raise());
-        };
-        self.reading = Some(reading);
-        Ok(count)
+        match self.read_open(name, at, out) {
+            Ok(count) => Ok(count),
+            Err(_) => Err(self.faults.raise()),
+        }
     }
 
     fn create(&mut self, name: &str) -> Result<(), Failed> {
