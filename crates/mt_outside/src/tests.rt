@@ -1,7 +1,6 @@
 ghost use Rattle.mt_outside.specs.Reading.{IsFile};
 
 use super::*;
-use crate::reading::Reading;
 use mt_base::NoMemory;
 use std::io::{Cursor, Read, Seek};
 use std::test::*;
@@ -196,7 +195,10 @@ fn cursors_are_files()
 fn a_cursor_is_read_past_a_gap_and_back(rt: HostRuntime) -> Result<(), Fail> {
     cursors_are_files();
     let bytes = Vec::from_slice(rt.alloc(), b"abcdefghij")?;
-    let mut reading = Reading::new(String::from_str(rt.alloc(), "a")?, Cursor::new(bytes));
+    let mut reading = crate::reading::Reading::new(
+        String::from_str(rt.alloc(), "a")?,
+        Cursor::new(bytes),
+    );
     for (at, want) in [
         (0u64, "abcd"),
         (6, "ghij"),
