@@ -1,0 +1,8 @@
+mod Further
+mod Making
+mod Cuts
+mod Portions
+mod Sending
+pub mod Entries
+pub mod Standing
+pub mod Calls

@@ -1,0 +1,33 @@
+use Rattle.std.proofs.Common.{◌≡◌, nat_eq, Some, rules, ap, refl, sym, subst, ◌+◌}
+use Rattle.std.specs.Map.{lookup}
+use Rattle.dvc_channels.specs.Acts.{weight}
+use Rattle.dvc_channels.specs.Table.{Kept, IsFair}
+use Rattle.dvc_channels.proofs.Entries.{counted_written, fair_at}
+use Rattle.dvc_channels.proofs.Calls.{unchanged}
+use Rattle.dvc_channels.proofs.channels.Channels.answer.Goals as goal
+
+pub invariant_of-self-then-ne : goal.invariant_of-self-then-ne
+invariant_of-self-then-ne c =
+    let m = c.self.inside in
+    let old = c.in-Some.channel.now in
+    let is : lookup (nat_eq c.args.id) m.channels.entries ≡ Some old = search rules in
+    let held = c.get_mut.follows.holds old in
+    counted_written c.args.id old old m.channels.entries _ m.waiting m.waiting _ _ c.self.invariant is held.0 held.6 (fair_at c.args.id old m.channels.entries m.waiting (c.self.invariant).0 is) refl
+
+pub returns-then-ne-clause-unchanged : goal.returns-then-ne-clause-unchanged
+returns-then-ne-clause-unchanged c =
+    let m = c.self.inside in
+    let old = c.in-Some.channel.now in
+    let is : lookup (nat_eq c.args.id) m.channels.entries ≡ Some old = search rules in
+    unchanged c.args.id old old m.channels.entries _ m.waiting m.waiting c.args.self.now c.self.view_is is (c.get_mut.follows.holds old).0 refl refl
+
+pub invariant_of-self-2 : goal.invariant_of-self-2
+invariant_of-self-2 c =
+    let m = c.self.inside in
+    let old = c.in-Some.channel.now in
+    let new = c.answer.new.self in
+    let is : lookup (nat_eq c.args.id) m.channels.entries ≡ Some old = search rules in
+    let held = c.get_mut.follows.holds new in
+    let fair : IsFair old.part = fair_at c.args.id old m.channels.entries m.waiting (c.self.invariant).0 is in
+    counted_written c.args.id old new m.channels.entries _ m.waiting m.waiting _ _ c.self.invariant is held.0 held.6
+    (subst IsFair (sym (ap (λ (k : Kept). k.part) c.answer.ensures)) fair) (ap (λ (k : Kept). m.waiting + weight k.whole) (sym c.answer.ensures))

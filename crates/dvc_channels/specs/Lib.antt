@@ -1,0 +1,5 @@
+pub mod Pieces
+pub mod Cutting
+pub mod Acts
+pub mod Table
+pub mod Fragments
