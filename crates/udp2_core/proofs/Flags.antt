@@ -1,0 +1,81 @@
+-- The flags that a machine tells.
+use Rattle.std.proofs.Common.{◌≡◌, ℕ, zero, suc, ◌+◌, ◌-◌, ◌<◌, ◌≤◌, ◌&&◌, Bool, true, false, List, [], ◌∷◌, ◌++◌, drop, length, get_or, max, take, replicate, refl, sym, ap, ap₂, ◌∙◌, arith}
+use Rattle.std.proofs.lemmas.List.{length-replicate, take-replicate}
+use Rattle.std.proofs.Math.Seq.{take-append_seam}
+use Rattle.coded_vector.specs.Written.{coded_of}
+use Rattle.mt_windows.specs.Noted.{is_seen}
+use Rattle.carrier.specs.Layout.{Upto}
+use Rattle.udp2_packets.specs.Value.{AckTelling}
+use Rattle.udp2_core.specs.SecondLayout.{all_seen, flags_from, low, packet_telling}
+
+-- flags that say of each number whether it was received are those that are told
+pub flags_are : (has : ℕ → Bool) (from n : ℕ) (flags : List Bool) → length flags ≡ n
+    → ((k : ℕ) → k < n → get_or flags k false ≡ has (from + k)) → flags ≡ flags_from has from n
+flags_are has from zero [] size say = refl
+flags_are has from zero (flag ∷ flags) size say = absurd (omega (arith, size))
+flags_are has from (suc n) [] size say = absurd (omega (arith, size))
+flags_are has from (suc n) (flag ∷ flags) size say =
+    let here : from + 0 ≡ from = omega arith in
+    let first : flag ≡ has from = say 0 (omega arith) ∙ ap has here in
+    ap (λ f. f ∷ flags) first
+    ∙ ap (λ fs. has from ∷ fs) (flags_are has (from + 1) n flags (omega (arith, size))
+    (λ k less. let there : from + suc k ≡ from + 1 + k = omega arith in
+    say (suc k) (omega (arith, less)) ∙ ap has there))
+
+-- where each of them was seen, all were
+pub all_there : (seen : List ℕ) (from n : ℕ)
+    → ((k : ℕ) → k < n → is_seen 512 seen (from + k) ≡ true) → true ≡ all_seen seen from n
+all_there seen from zero each = refl
+all_there seen from (suc n) each =
+    let here : from + 0 ≡ from = omega arith in
+    let first : is_seen 512 seen from ≡ true = ap (is_seen 512 seen) (sym here) ∙ each 0 (omega arith) in
+    all_there seen (from + 1) n
+    (λ k less. let there : from + 1 + k ≡ from + suc k = omega arith in
+    ap (is_seen 512 seen) there ∙ each (suc k) (omega (arith, less)))
+    ∙ sym (ap (λ b. b && all_seen seen (from + 1) n) first)
+
+-- where one was not, not all were
+pub one_missing : (seen : List ℕ) (from n k : ℕ) → k < n → false ≡ is_seen 512 seen (from + k)
+    → false ≡ all_seen seen from n
+one_missing seen from zero k less not_there = absurd (omega arith)
+one_missing seen from (suc n) zero less not_there =
+    let here : from + 0 ≡ from = omega arith in
+    ap (λ b. b && all_seen seen (from + 1) n) (not_there ∙ ap (is_seen 512 seen) here)
+one_missing seen from (suc n) (suc k) less not_there =
+    let there : from + suc k ≡ from + 1 + k = omega arith in
+    by_first (is_seen 512 seen from)
+    (one_missing seen (from + 1) n k (omega arith) (not_there ∙ ap (is_seen 512 seen) there))
+  where
+    by_first : (first : Bool) → false ≡ all_seen seen (from + 1) n
+        → false ≡ (first && all_seen seen (from + 1) n)
+    by_first true others = others
+    by_first false others = refl
+
+-- the front of no delays
+pub no_delays : (n : ℕ) → n ≤ 15
+    → take {A = ℕ} n (0 ∷ 0 ∷ 0 ∷ 0 ∷ 0 ∷ 0 ∷ 0 ∷ 0 ∷ 0 ∷ 0 ∷ 0 ∷ 0 ∷ 0 ∷ 0 ∷ 0 ∷ []) ≡ replicate n 0
+no_delays n few = let z : ℕ = 0 in take-replicate n 15 z few
+
+-- an acknowledgement of so many numbers
+pub ack_told : (named number count most : ℕ) (delays : List ℕ) → number ≡ low named
+    → most ≡ max count 1 → delays ≡ replicate (most - 1) 0
+    → AckTelling (record { number = number; received_ts = 0; gap = 0; scale = 0; delays = delays })
+    ≡ packet_telling (Upto named (replicate (max 1 count) true))
+ack_told named number count most delays number_is most_is delays_are =
+    let fewer : most - 1 ≡ length (replicate (max 1 count) true) - 1 =
+    omega (arith, most_is, length-replicate (max 1 count) true) in
+    ap₂ (λ m ds. AckTelling (record { number = m; received_ts = 0; gap = 0; scale = 0; delays = ds }))
+    number_is (delays_are ∙ ap (λ k. replicate k 0) fewer)
+
+-- the same flags, of as many numbers
+pub same_flags : (has : ℕ → Bool) (from count size : ℕ) (flags : List Bool) → count ≡ size
+    → flags ≡ flags_from has from count → coded_of flags ≡ coded_of (flags_from has from size)
+same_flags has from count size flags same is =
+    ap coded_of (is ∙ ap (flags_from has from) same)
+
+-- what was written is at the front
+pub written_front : (n : ℕ) (bytes out new : List ℕ)
+    → (n ≡ length bytes) × (new ≡ bytes ++ drop n out) → take n new ≡ bytes
+written_front n bytes out new is =
+    ap (take n) is.1 ∙ ap (λ m. take m (bytes ++ drop n out)) is.0
+    ∙ take-append_seam bytes (drop n out)

@@ -1,0 +1,17 @@
+pub mod Told
+pub mod ReadBack
+pub mod Sizes
+pub mod Flags
+pub mod Receiving
+pub mod Written
+pub mod ToldFlags
+pub mod Sendings
+pub mod Settlings
+pub mod Tellings
+pub mod Steps
+pub mod Carrying
+pub mod Polled
+pub mod Polls
+pub mod Dues
+pub mod Inputs
+pub mod Fronts

@@ -1,0 +1,24 @@
+use Rattle.std.proofs.Common.{◌<◌, ◌∙◌, sym, subst, arith}
+use Rattle.std.proofs.lemmas.List.Elements.{All-from_get_or, All-take}
+use Rattle.mt_base.specs.Trace.{◌▷◌}
+use Rattle.mt_windows.specs.Sending.Act.{Cut}
+use Rattle.udp2_core.specs.SecondLayout.{second_layout}
+use Rattle.udp2_core.specs.SenderView.{Speaks, timer_begun}
+use Rattle.udp2_core.proofs.Steps.{take_front}
+use Rattle.udp2_core.proofs.machine.Udp2Core.cut_into.Goals as goal
+
+pub returns-clause-bytes : goal.returns-clause-bytes
+returns-clause-bytes c acts told timer speaks =
+    let says = subst (λ m. Speaks m.sender acts told timer) (sym c.self.view_is) speaks in
+    let e = c.cut.ensures.bytes acts told timer says in
+    (e.0, take_front c.cut.result c.cut.new.out _ (omega (arith, c.cut.ensures.fits, c.cut.ensures.whole)) ∙ e.1)
+
+pub returns-clause-stands : goal.returns-clause-stands
+returns-clause-stands c acts told timer speaks =
+    let says = subst (λ m. Speaks m.sender acts told timer) (sym c.self.view_is) speaks in
+    subst (λ m. Speaks c.cut.new.self (acts ▷ Cut) told (timer_begun second_layout acts timer m.moment)) c.self.view_is
+    (c.cut.ensures.stands acts told timer says)
+
+pub returns-clause-good : goal.returns-clause-good
+returns-clause-good c =
+    All-take (λ b. b < 256) c.cut.result _ (All-from_get_or (λ b. b < 256) _ 0 (λ i within. omega (arith, c.type_inv.out i)))

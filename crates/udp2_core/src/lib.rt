@@ -1,0 +1,22 @@
+//! The machine of a reliable link whose datagrams have the second layout (MS-RDPEUDP2 section 2.2),
+//! version 0x0101, from the moment on at which its ends have agreed.
+//!
+//! Below it stand `mt_windows` with its windows, `udp2_packets` and `coded_vector`, which read and
+//! write these datagrams, and `carrier` with what a link is. What the crates above use is that
+//! [`Udp2Core`] is a `Carrier` whose traces are faithful to the second layout, and that this layout
+//! reads back what it spells ([`second_layout_is_read`]).
+#![tactic(auto)]
+
+mod choice;
+mod contents;
+mod laws;
+mod machine;
+mod numbers;
+mod receiver;
+mod sender;
+
+pub use laws::{one_part_goes_over, second_layout_is_read};
+pub use machine::Udp2Core;
+
+#[cfg(test)]
+mod tests;
