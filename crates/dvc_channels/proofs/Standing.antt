@@ -7,23 +7,13 @@ use Rattle.std.proofs.lemmas.Bool.{cases_eq, eq-eqb, ne_eqb}
 use Rattle.std.proofs.lemmas.List.{append-nil}
 use Rattle.mt_base.specs.Trace.{Trace, ◌▷◌}
 use Rattle.dvc_pdus.specs.Value.{Pdu}
-use Rattle.dvc_channels.specs.Pieces.{Piece, Part, pieces_of, goes_on, ended_by, under_way, under_way_from, messages_from}
+use Rattle.dvc_channels.proofs.Further.{messages_behind, under_way_behind}
+use Rattle.dvc_channels.specs.Pieces.{Piece, Part, pieces_of, under_way, under_way_from, messages_from}
 use Rattle.dvc_channels.specs.Acts.{Act, Made, Came, ids, state, name_of, brought, arrived, taken, untaken, weight, waiting}
 use Rattle.dvc_channels.specs.Table.{Kept, part_in, PiecesIn, Keeps, IsNew, IsKept, Stands, with_pdu, IsCounted}
 use Rattle.dvc_channels.specs.declared.answers.ChannelState.{ChannelState}
 use Rattle.dvc_channels.specs.declared.answers.ChannelState.TheVariants.{Unknown, Asked, Open, Refused, Closed}
 use Rattle.dvc_channels.proofs.Entries.{Entries, all_whole, all_whole_is}
-
--- ---- pieces one behind the other
-
-pub messages_more : (part : Option Part) (xs ys : List Piece) → messages_from part (xs ++ ys) ≡ messages_from part xs ++ messages_from (under_way_from part xs) ys
-messages_more part [] ys = refl
-messages_more part (x ∷ xs) ys =
-    ap (λ l. ended_by part x ++ l) (messages_more (goes_on part x) xs ys) ∙ sym (append_assoc (ended_by part x) (messages_from (goes_on part x) xs) (messages_from (under_way_from (goes_on part x) xs) ys))
-
-pub under_way_more : (part : Option Part) (xs ys : List Piece) → under_way_from part (xs ++ ys) ≡ under_way_from (under_way_from part xs) ys
-under_way_more part [] ys = refl
-under_way_more part (x ∷ xs) ys = under_way_more (goes_on part x) xs ys
 
 -- ---- a channel that an act does not touch
 
@@ -88,7 +78,7 @@ made_kept Closed pieces pdu = refl
 part_more : (s : ChannelState) (pieces : List Piece) (pdu : Pdu) → under_way_from (part_in s pieces) (brought s pdu) ≡ part_in s (pieces ++ brought s pdu)
 part_more Unknown pieces pdu = refl
 part_more Asked pieces pdu = refl
-part_more Open pieces pdu = sym (under_way_more None pieces (pieces_of pdu))
+part_more Open pieces pdu = sym (under_way_behind None pieces (pieces_of pdu))
 part_more Refused pieces pdu = refl
 part_more Closed pieces pdu = refl
 
@@ -113,7 +103,7 @@ came_here id pdu k t h =
       state_is = h.state_is;
       name_is = h.name_is;
       messages_are = rw same (
-          messages_more None here (brought s pdu)
+          messages_behind None here (brought s pdu)
           ∙ ap (λ l. l ++ messages_from (under_way here) (brought s pdu)) h.messages_are
           ∙ ap (λ l. (taken t id ++ k.whole) ++ l) made
           ∙ append_assoc (taken t id) k.whole (messages_from k.part (brought k.state pdu)));

@@ -1,5 +1,5 @@
 -- What was done to a table of channels, and what became of the channels by it.
-use Rattle.std.specs.Prelude.{◌≡◌, ◌≢◌, ◌==◌, ℕ, ◌+◌, ◌≤◌, List, [], ◌∷◌, ◌++◌, length, drop, flat_map, nat_lt, Option, Some, None, Result, Ok, Err, if◌then◌else◌}
+use Rattle.std.specs.Prelude.{◌≡◌, ◌≢◌, ◌==◌, ℕ, ◌+◌, ◌<◌, ◌≤◌, List, [], ◌∷◌, ◌++◌, length, drop, flat_map, nat_lt, Option, Some, None, Result, Ok, Err, if◌then◌else◌}
 use Rattle.mt_base.specs.Trace.{Trace, Start, ◌▷◌}
 use Rattle.dvc_pdus.specs.Value.{Pdu, Caps, CreateRequest, CreateResponse, DataFirst, Data, CompressedFirst, Compressed, Close, SyncRequest, SyncResponse}
 use Rattle.dvc_channels.specs.Pieces.{Piece, Part, pieces_of, under_way, messages, messages_from}
@@ -138,19 +138,19 @@ abbrev pub accepted_as : Trace Act → ℕ → Pdu → Accepted
 accepted_as t id pdu =
     let pieces = brought (state t id) pdu in what_came pieces (messages_from (under_way (arrived t id)) pieces)
 
--- the answer to a data PDU: what became of it where nothing refuses it, and else the first cause;
--- want of memory may come at any
+-- The answer to a data PDU: what became of it where nothing refuses it, and else the first cause. Want
+-- of memory comes only where nothing refuses a PDU that brings data.
 abbrev pub IsAnswer : Trace Act → ℕ → Pdu → Result Accepted ChannelRefusal → Type 0
 IsAnswer t id pdu (Ok accepted) = (refusal_of t id pdu ≡ None) × (accepted ≡ accepted_as t id pdu)
-IsAnswer t id pdu (Err refusal.NoMemory) = Unit {0}
+IsAnswer t id pdu (Err refusal.NoMemory) = (refusal_of t id pdu ≡ None) × (brought (state t id) pdu ≢ [])
 IsAnswer t id pdu (Err r) = refusal_of t id pdu ≡ Some r
 
--- why a channel is not created: there was one of this id, or else there are 256; want of memory may
--- come at any
+-- Why a channel is not created: there was one of this id, or else there are 256. Want of memory comes
+-- only where it is neither.
 abbrev pub WhyNotMade : Trace Act → ℕ → CreateRefusal → Type 0
 WhyNotMade t id create.Known = state t id ≢ Unknown
 WhyNotMade t id (create.TooMany limit) = (state t id ≡ Unknown) × (length (ids t) ≡ 256) × (limit ≡ 256)
-WhyNotMade t id create.NoMemory = Unit {0}
+WhyNotMade t id create.NoMemory = (state t id ≡ Unknown) × (length (ids t) < 256)
 
 -- why an answer is not taken: there is no channel of this id, or it was answered before
 abbrev pub WhyNotAnswered : Trace Act → ℕ → ChannelRefusal → Type 0

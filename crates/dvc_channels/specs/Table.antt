@@ -85,16 +85,17 @@ made_by pdu k = messages_from k.part (brought k.state pdu)
 abbrev pub with_pdu : Pdu → Kept → Kept
 with_pdu pdu k = record k { whole = k.whole ++ made_by pdu k; part = under_way_from k.part (brought k.state pdu) }
 
--- a refusal with this cause, or with none; want of memory may come at any
+-- a refusal with this cause; want of memory comes where there is none
 abbrev pub IsCause : Option ChannelRefusal → ChannelRefusal → Type 0
-IsCause cause refusal.NoMemory = Unit {0}
+IsCause cause refusal.NoMemory = cause ≡ None
 IsCause cause r = cause ≡ Some r
 
 -- the answer of a channel to a data PDU
 abbrev pub IsAnswerOf : Kept → ℕ → Pdu → Result Accepted ChannelRefusal → Type 0
 IsAnswerOf k id pdu (Ok accepted) =
     (refusal_in k.state id k.part pdu ≡ None) × (accepted ≡ what_came (brought k.state pdu) (made_by pdu k))
-IsAnswerOf k id pdu (Err why) = IsCause (refusal_in k.state id k.part pdu) why
+IsAnswerOf k id pdu (Err refusal.NoMemory) = (refusal_in k.state id k.part pdu ≡ None) × (brought k.state pdu ≢ [])
+IsAnswerOf k id pdu (Err why) = refusal_in k.state id k.part pdu ≡ Some why
 
 -- a message under way is not whole, and has at most 1,048,576 bytes
 abbrev pub IsFair : Option Part → Type 0

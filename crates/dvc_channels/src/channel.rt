@@ -167,11 +167,18 @@ impl Channel {
 
     /// Takes the first bytes of a message, where the channel is open. The answer is as that of
     /// `begin`.
-    fn first(&mut self, id: u32, total: u32, bytes: &[u8]) -> Result<Option<usize>, ChannelRefusal>
+    fn first(
+        &mut self,
+        id: u32,
+        total: u32,
+        bytes: &[u8],
+        waiting: u64,
+    ) -> Result<Option<usize>, ChannelRefusal>
         requires told { length bytes.now ≤ total }
         ensures taken { OnOk result (self.new ≡ with_piece (First total bytes.now) self.old) }
         ensures ended { IfOk result (λ length_of. Ends length_of (ended_by self.old.part (First total bytes.now))) }
         ensures fair { OnOk result (IsFair self.new.part × (total ≤ 1048576)) }
+        ensures room { OnOk result (waiting ≤ 18446744073708502975) }
         ensures allowed { OnOk result (data_refusal id self.old.part (DataFirst id total bytes.now) ≡ None) }
         ensures refused { IfErr result (λ why. IsCause (data_refusal id self.old.part (DataFirst id total bytes.now)) why) }
         ensures unchanged { OnErr result (self.new ≡ self.old) }
@@ -182,15 +189,19 @@ impl Channel {
         if total > MESSAGE {
             return Err(ChannelRefusal::MessageTooLong { id, length: total });
         }
+        if waiting > COUNTED {
+            return Err(ChannelRefusal::NoMemory);
+        }
         Ok(self.begin(total as usize, bytes)?)
     }
 
     /// Takes further bytes, where the channel is open. The answer is as that of `go_on`.
-    fn next(&mut self, id: u32, bytes: &[u8]) -> Result<Option<usize>, ChannelRefusal>
+    fn next(&mut self, id: u32, bytes: &[u8], waiting: u64) -> Result<Option<usize>, ChannelRefusal>
         requires fair { IsFair self.old.part }
         ensures taken { OnOk result (self.new ≡ with_piece (Next bytes.now) self.old) }
         ensures ended { IfOk result (λ length_of. Ends length_of (ended_by self.old.part (Next bytes.now))) }
         ensures fair { OnOk result (IsFair self.new.part) }
+        ensures room { OnOk result (waiting ≤ 18446744073708502975) }
         ensures allowed { OnOk result (data_refusal id self.old.part (Data id bytes.now) ≡ None) }
         ensures refused { IfErr result (λ why. IsCause (data_refusal id self.old.part (Data id bytes.now)) why) }
         ensures unchanged { OnErr result (self.new ≡ self.old) }
@@ -199,6 +210,9 @@ impl Channel {
             if bytes.len() > part.missing() {
                 return Err(ChannelRefusal::MoreThanLength { id });
             }
+        }
+        if waiting > COUNTED {
+            return Err(ChannelRefusal::NoMemory);
         }
         Ok(self.go_on(bytes)?)
     }
@@ -224,12 +238,9 @@ impl Channel {
             ChannelState::Closed => return Ok(Accepted::Dropped),
             _ => return Err(ChannelRefusal::UnknownChannel { id }),
         }
-        if *waiting > COUNTED {
-            return Err(ChannelRefusal::NoMemory);
-        }
         let ended = match *pdu {
-            DvcPdu::DataFirst { length, bytes, .. } => self.first(id, length, bytes)?,
-            DvcPdu::Data { bytes, .. } => self.next(id, bytes)?,
+            DvcPdu::DataFirst { length, bytes, .. } => self.first(id, length, bytes, *waiting)?,
+            DvcPdu::Data { bytes, .. } => self.next(id, bytes, *waiting)?,
             _ => return Ok(Accepted::Dropped),
         };
         let Some(length) = ended else {

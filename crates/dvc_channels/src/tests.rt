@@ -206,3 +206,25 @@ fn data_are_refused_by_their_cause(rt: HostRuntime) -> Result<(), Fail> {
     assert!(rt; channels.take(1).is_none());
     Ok(())
 }
+
+#[test]
+fn long_names_and_many_messages_are_kept(rt: HostRuntime) -> Result<(), Fail> {
+    let mut channels = Channels::new(rt.alloc())?;
+    let name = [b'n'; 255];
+    assert_eq!(rt; channels.create(1, &name), Ok(()));
+    assert_eq!(rt; channels.name(1), Some(&name as &[u8]));
+    assert_eq!(rt; channels.answer(1, 0), Ok(()));
+    let bytes = &[7u8; 1595];
+    for count in 1..101u64 {
+        assert_eq!(rt;
+            channels.accept(1, &DvcPdu::Data { id: 1, bytes }),
+            Ok(Accepted::Whole)
+        );
+        assert_eq!(rt; channels.waiting(), count * 1659);
+    }
+    for _ in 0..100 {
+        gives(&rt, &mut channels, bytes)?;
+    }
+    assert_eq!(rt; channels.waiting(), 0);
+    Ok(())
+}
