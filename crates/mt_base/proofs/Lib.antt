@@ -12,4 +12,5 @@ pub mod Firsts
 pub mod Steps
 pub mod Masks
 pub mod Spaces
+pub mod Filled
 pub mod Deciding

@@ -7,5 +7,6 @@ pub mod Writing
 pub mod Parts
 pub mod OutView
 pub mod Space
+pub mod Filling
 pub mod RoomView
 pub mod Longest

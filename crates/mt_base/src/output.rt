@@ -3,7 +3,7 @@
 ghost use Rattle.std.specs.Prelude.{◌≡◌, ◌+◌, ◌<◌, ◌≤◌, ◌^◌, length, ℕ};
 
 use crate::errors::NoRoom;
-use byteorder::{BigEndian, ByteOrder, LittleEndian};
+use crate::place::Place;
 
 /// Writes fields into a buffer, one after the other.
 ///
@@ -55,13 +55,30 @@ impl<'a> Out<'a> {
         Ok(())
     }
 
+    /// Writes so many zeros, as one field.
+    pub fn put_zeros(&mut self, count: usize) -> Result<(), NoRoom>
+        ensures same { self.new.bytes.ghost_name ≡ self.old.bytes.ghost_name }
+        ensures written { Writes (spot self.new) result (put (replicate count 0) (spot self.old)) }
+        ensures unchanged { OnErr result (spot self.new ≡ spot self.old) }
+    {
+        if self.bytes.len() - self.at < count {
+            return Err(NoRoom {
+                at: self.at,
+                need: count,
+            });
+        }
+        self.bytes[self.at..self.at + count].fill(0);
+        self.at += count;
+        Ok(())
+    }
+
     /// Writes a byte.
     pub fn put_u8(&mut self, value: u8) -> Result<(), NoRoom>
         ensures same { self.new.bytes.ghost_name ≡ self.old.bytes.ghost_name }
         ensures written { Writes (spot self.new) result (put (big_bytes 1 value) (spot self.old)) }
         ensures unchanged { OnErr result (spot self.new ≡ spot self.old) }
     {
-        self.put(&[value])
+        Place::put_u8(self, value)
     }
 
     /// Writes a number in two bytes, the highest first.
@@ -70,9 +87,7 @@ impl<'a> Out<'a> {
         ensures written { Writes (spot self.new) result (put (big_bytes 2 value) (spot self.old)) }
         ensures unchanged { OnErr result (spot self.new ≡ spot self.old) }
     {
-        let mut field = [0; 2];
-        BigEndian::write_u16(&mut field, value);
-        self.put(&field)
+        Place::put_u16_be(self, value)
     }
 
     /// Writes a number in four bytes, the highest first.
@@ -81,9 +96,7 @@ impl<'a> Out<'a> {
         ensures written { Writes (spot self.new) result (put (big_bytes 4 value) (spot self.old)) }
         ensures unchanged { OnErr result (spot self.new ≡ spot self.old) }
     {
-        let mut field = [0; 4];
-        BigEndian::write_u32(&mut field, value);
-        self.put(&field)
+        Place::put_u32_be(self, value)
     }
 
     /// Writes a number in two bytes, the lowest first.
@@ -92,9 +105,7 @@ impl<'a> Out<'a> {
         ensures written { Writes (spot self.new) result (put (little_bytes 2 value) (spot self.old)) }
         ensures unchanged { OnErr result (spot self.new ≡ spot self.old) }
     {
-        let mut field = [0; 2];
-        LittleEndian::write_u16(&mut field, value);
-        self.put(&field)
+        Place::put_u16_le(self, value)
     }
 
     /// Writes a number below 2^24 in three bytes, the lowest first.
@@ -104,9 +115,7 @@ impl<'a> Out<'a> {
         ensures written { Writes (spot self.new) result (put (little_bytes 3 value) (spot self.old)) }
         ensures unchanged { OnErr result (spot self.new ≡ spot self.old) }
     {
-        let mut field = [0; 3];
-        LittleEndian::write_u24(&mut field, value);
-        self.put(&field)
+        Place::put_u24_le(self, value)
     }
 
     /// Writes a number in four bytes, the lowest first.
@@ -115,8 +124,23 @@ impl<'a> Out<'a> {
         ensures written { Writes (spot self.new) result (put (little_bytes 4 value) (spot self.old)) }
         ensures unchanged { OnErr result (spot self.new ≡ spot self.old) }
     {
-        let mut field = [0; 4];
-        LittleEndian::write_u32(&mut field, value);
-        self.put(&field)
+        Place::put_u32_le(self, value)
+    }
+}
+
+impl Place for Out<'_> {
+    ghost use Rattle.mt_base.specs.Filling.{Written};
+    ghost use Rattle.mt_base.specs.OutView.{spot};
+
+    ghost filling = { λ o. Written (spot o) };
+
+    ghost lent = { λ o. o.bytes.ghost_name };
+
+    fn put(&mut self, bytes: &[u8]) -> Result<(), NoRoom> {
+        self.put(bytes)
+    }
+
+    fn put_zeros(&mut self, count: usize) -> Result<(), NoRoom> {
+        self.put_zeros(count)
     }
 }

@@ -3,6 +3,7 @@
 ghost use Rattle.std.specs.Prelude.{◌≡◌, ◌+◌, ◌<◌, ◌^◌, ℕ};
 
 use crate::errors::NoRoom;
+use crate::place::Place;
 
 /// The room that is left in an output: the next field's place, and the bytes from there on.
 ///
@@ -38,5 +39,22 @@ impl Room {
         self.at += need;
         self.left -= need;
         Ok(())
+    }
+}
+
+impl Place for Room {
+    ghost use Rattle.mt_base.specs.Filling.{Counted};
+    ghost use Rattle.mt_base.specs.RoomView.{space};
+
+    ghost filling = { λ r. Counted (space r) };
+
+    ghost lent = { λ r. 0 };
+
+    fn put(&mut self, bytes: &[u8]) -> Result<(), NoRoom> {
+        self.pass(bytes.len())
+    }
+
+    fn put_zeros(&mut self, count: usize) -> Result<(), NoRoom> {
+        self.pass(count)
     }
 }

@@ -47,13 +47,42 @@ fn writes_each_field(rt: HostRuntime) -> Result<(), Fail> {
 }
 
 #[test]
-fn passes_over_fields(rt: HostRuntime) -> Result<(), Fail> {
+fn puts_fields_in_room(rt: HostRuntime) -> Result<(), Fail> {
     let mut room = Room::new(5);
-    room.pass(2)?;
-    assert_eq!(rt; room.pass(4), Err(NoRoom { at: 2, need: 4 }));
-    room.pass(3)?;
-    room.pass(0)?;
-    assert_eq!(rt; room.pass(1), Err(NoRoom { at: 5, need: 1 }));
+    room.pass(1)?;
+    room.put_u8(7)?;
+    assert_eq!(rt; room.put_u32_be(1), Err(NoRoom { at: 2, need: 4 }));
+    room.put_zeros(3)?;
+    assert_eq!(rt; room.put(&[1]), Err(NoRoom { at: 5, need: 1 }));
+    Ok(())
+}
+
+/// A byte, and so many zeros.
+struct Padded(u8, usize);
+
+impl Spell for Padded {
+    ghost use Rattle.std.specs.Prelude.{[], ◌∷◌, replicate};
+
+    ghost fields = { λ p. (p.0 ∷ []) ∷ replicate p.1 0 ∷ [] };
+
+    ghost fits = { λ _. Unit {0} };
+
+    fn spell<P: Place>(&self, place: &mut P) -> Result<(), NoRoom> {
+        place.put(&[self.0])?;
+        place.put_zeros(self.1)
+    }
+}
+
+#[test]
+fn writes_all_fields_or_none(rt: HostRuntime) -> Result<(), Fail> {
+    let mut bytes = [0xff; 4];
+    assert_eq!(rt;
+        write(&Padded(1, 4), &mut bytes),
+        Err(NoRoom { at: 1, need: 4 })
+    );
+    assert_eq!(rt; bytes, [0xff; 4]);
+    assert_eq!(rt; write(&Padded(1, 2), &mut bytes), Ok(3));
+    assert_eq!(rt; bytes, [1, 0, 0, 0xff]);
     Ok(())
 }
 

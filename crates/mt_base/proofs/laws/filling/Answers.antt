@@ -1,9 +1,12 @@
-use Rattle.std.proofs.Common.{◌≡◌, ℕ, ◌<◌, ◌≤◌, ◌⊎◌, inl, inr, List, length, Err, sym, ◌∙◌}
+use Rattle.std.proofs.Common.{◌≡◌, ℕ, ◌<◌, ◌≤◌, ◌⊎◌, inl, inr, List, length, Err, sym, ap, ◌∙◌}
 use Rattle.std.proofs.lemmas.Bool.{cases_lt}
 use Rattle.mt_base.specs.declared.errors.NoRoom.{NoRoom}
 use Rattle.mt_base.specs.Writing.{Spot, puts, joined}
 use Rattle.mt_base.proofs.Fill.{puts_filled, puts_fit}
 use Rattle.mt_base.proofs.Spaces.{sized}
+use Rattle.mt_base.specs.Filling.{in_room}
+use Rattle.mt_base.specs.Space.{numbers}
+use Rattle.mt_base.proofs.Filled.{in_buffers, in_rooms}
 use Rattle.mt_base.proofs.laws.filling.Goals as goal
 
 pub returns-clause-fits : goal.returns-clause-fits
@@ -21,3 +24,6 @@ returns-clause-no_room c fs s e is = refused fs s e is (cases_lt (length s.after
 
 pub returns-clause-counted : goal.returns-clause-counted
 returns-clause-counted c fs s = sized fs s
+
+pub returns-clause-placed : goal.returns-clause-placed
+returns-clause-placed c fs s = (in_buffers fs s, in_rooms fs (numbers s) ∙ ap in_room (sized fs s))
