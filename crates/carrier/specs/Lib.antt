@@ -5,6 +5,7 @@ pub mod Sending
 pub mod Due
 pub mod Law
 pub mod States
+pub mod Names
 pub mod LayoutLaw
 pub mod Joined
 pub mod TwoLinks

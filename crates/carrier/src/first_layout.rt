@@ -1,6 +1,10 @@
 //! Why bytes are no packet of the first layout.
 
+ghost use Rattle.std.specs.Prelude.{◌≡◌};
+ghost use Rattle.carrier.specs.Names.{first_name, first_place};
+
 use mt_base::Short;
+use std::fmt;
 
 /// Why bytes are no packet of the first layout (MS-RDPEUDP section 2.2): the first fault in the
 /// order of the fields. Places are byte offsets from the datagram's first byte.
@@ -30,5 +34,51 @@ impl From<Short> for Refusal1 {
 
     fn from(short: Short) -> Refusal1 {
         Refusal1::Short(short)
+    }
+}
+
+impl Refusal1 {
+    /// The name of the fault, spelled as its variant.
+    pub fn name(&self) -> &'static str
+        ensures { result.now ≡ first_name self.now }
+    {
+        match self {
+            Refusal1::Short(_) => "Short",
+            Refusal1::BadMtu { .. } => "BadMtu",
+            Refusal1::BadVersion { .. } => "BadVersion",
+            Refusal1::BadState { .. } => "BadState",
+            Refusal1::VectorTooLong { .. } => "VectorTooLong",
+            Refusal1::SynWithData { .. } => "SynWithData",
+            Refusal1::PaddingNotZero { .. } => "PaddingNotZero",
+        }
+    }
+
+    /// The byte offset of the fault; of a field that is cut short, where it begins.
+    pub fn place(&self) -> usize
+        ensures { result ≡ first_place self.now }
+    {
+        match *self {
+            Refusal1::Short(Short { at, .. })
+            | Refusal1::BadMtu { at }
+            | Refusal1::BadVersion { at }
+            | Refusal1::BadState { at }
+            | Refusal1::VectorTooLong { at }
+            | Refusal1::SynWithData { at }
+            | Refusal1::PaddingNotZero { at } => at,
+        }
+    }
+}
+
+/// `NAME at PLACE`.
+impl fmt::Display for Refusal1 {
+    ghost use Rattle.std.specs.Prelude.{Some};
+    ghost use Rattle.carrier.specs.Names.{first_text};
+
+    ghost output = { λ r. Some (first_text r) };
+
+    fn fmt<W: fmt::Write>(&self, f: &mut fmt::Formatter<W>) -> fmt::Result {
+        let name = self.name();
+        let place = self.place();
+        write!(f, "{name} at {place}")
     }
 }

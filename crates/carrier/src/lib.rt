@@ -22,6 +22,7 @@ mod perfect_carrier;
 mod perfect_datagram;
 mod perfect_post;
 mod piece;
+mod refusal_names;
 mod reliable;
 mod second_layout;
 mod state;

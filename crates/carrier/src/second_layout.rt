@@ -1,6 +1,10 @@
 //! Why bytes are no packet of the second layout.
 
+ghost use Rattle.std.specs.Prelude.{◌≡◌};
+ghost use Rattle.carrier.specs.Names.{second_name, second_place};
+
 use mt_base::Short;
+use std::fmt;
 
 /// Why bytes are no packet of the second layout (MS-RDPEUDP2 section 2.2): the first fault in the
 /// order of the checks. Places are byte offsets from the first byte of the packet as it stands
@@ -30,5 +34,49 @@ impl From<Short> for Refusal2 {
 
     fn from(short: Short) -> Refusal2 {
         Refusal2::Short(short)
+    }
+}
+
+impl Refusal2 {
+    /// The name of the fault, spelled as its variant.
+    pub fn name(&self) -> &'static str
+        ensures { result.now ≡ second_name self.now }
+    {
+        match self {
+            Refusal2::Short(_) => "Short",
+            Refusal2::ShortLength { .. } => "ShortLength",
+            Refusal2::BadType { .. } => "BadType",
+            Refusal2::UnknownFlag { .. } => "UnknownFlag",
+            Refusal2::AckAndVector { .. } => "AckAndVector",
+            Refusal2::Trailing { .. } => "Trailing",
+        }
+    }
+
+    /// The byte offset of the fault; of a field that is cut short, where it begins.
+    pub fn place(&self) -> usize
+        ensures { result ≡ second_place self.now }
+    {
+        match *self {
+            Refusal2::Short(Short { at, .. })
+            | Refusal2::ShortLength { at }
+            | Refusal2::BadType { at }
+            | Refusal2::UnknownFlag { at }
+            | Refusal2::AckAndVector { at }
+            | Refusal2::Trailing { at } => at,
+        }
+    }
+}
+
+/// `NAME at PLACE`.
+impl fmt::Display for Refusal2 {
+    ghost use Rattle.std.specs.Prelude.{Some};
+    ghost use Rattle.carrier.specs.Names.{second_text};
+
+    ghost output = { λ r. Some (second_text r) };
+
+    fn fmt<W: fmt::Write>(&self, f: &mut fmt::Formatter<W>) -> fmt::Result {
+        let name = self.name();
+        let place = self.place();
+        write!(f, "{name} at {place}")
     }
 }

@@ -1,7 +1,11 @@
 //! What a link is, and what it answers.
 
+ghost use Rattle.std.specs.Prelude.{◌≡◌};
+ghost use Rattle.carrier.specs.Names.{reason_name};
+
 use crate::first_layout::Refusal1;
 use crate::second_layout::Refusal2;
+use std::fmt;
 
 /// What a link is at this moment.
 #[derive(Clone, Copy, Debug, PartialEq, Eq)]
@@ -53,4 +57,43 @@ pub enum Reason {
     FecDropped,
     /// The link is closed.
     LinkClosed,
+}
+
+impl Reason {
+    /// The name of the reason, spelled as its variant; for a refusal of a layout that refusal's.
+    pub fn name(&self) -> &'static str
+        ensures { result.now ≡ reason_name self.now }
+    {
+        match self {
+            Reason::TooLong => "TooLong",
+            Reason::First(refusal) => refusal.name(),
+            Reason::Second(refusal) => refusal.name(),
+            Reason::NotOpen => "NotOpen",
+            Reason::NotOurs => "NotOurs",
+            Reason::WrongKind => "WrongKind",
+            Reason::BadAnswer => "BadAnswer",
+            Reason::UnknownCookie => "UnknownCookie",
+            Reason::Beyond { .. } => "Beyond",
+            Reason::Unnumbered => "Unnumbered",
+            Reason::Old => "Old",
+            Reason::FecDropped => "FecDropped",
+            Reason::LinkClosed => "LinkClosed",
+        }
+    }
+}
+
+/// A refusal of a layout as that refusal says itself, any other reason by its name.
+impl fmt::Display for Reason {
+    ghost use Rattle.std.specs.Prelude.{Some};
+    ghost use Rattle.carrier.specs.Names.{reason_text};
+
+    ghost output = { λ r. Some (reason_text r) };
+
+    fn fmt<W: fmt::Write>(&self, f: &mut fmt::Formatter<W>) -> fmt::Result {
+        match self {
+            Reason::First(refusal) => refusal.fmt(f),
+            Reason::Second(refusal) => refusal.fmt(f),
+            _ => f.write_str(self.name()),
+        }
+    }
 }

@@ -198,3 +198,16 @@ fn what_a_perfect_post_refuses(rt: HostRuntime) -> Result<(), Fail> {
     assert_eq!(rt; link.post(&[1]), Err(PostRefusal::Full { queued: 64 }));
     Ok(())
 }
+
+#[test]
+fn refusals_name_themselves(rt: HostRuntime) -> Result<(), Fail> {
+    let first = Refusal1::Short(Short { at: 4, need: 2 });
+    let second = Refusal2::Trailing { at: 19 };
+    assert_eq!(rt; (first.place(), second.place()), (4, 19));
+    assert_eq!(rt; GiveRefusal::Full { queued: 3 }.name(), "Full");
+    assert_eq!(rt; PostRefusal::Closed { expiries: 3 }.name(), "Closed");
+    assert_eq!(rt; Reason::First(first).name(), "Short");
+    let text = format!(in rt.alloc(); "{first}, {}, {}", Reason::Second(second), Reason::Old)?;
+    assert_eq!(rt; text.as_str(), "Short at 4, Trailing at 19, Old");
+    Ok(())
+}
