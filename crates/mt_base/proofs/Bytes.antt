@@ -1,5 +1,5 @@
 -- Lemmas on writing a list of bytes into a buffer, one after the other.
-use Rattle.std.proofs.Common.{◌≡◌, ℕ, ◌+◌, ◌<◌, ◌≤◌, ltb, List, [], ◌∷◌, ◌++◌, length, take, drop, Ok, Err, sym, ap, ◌∙◌, append_assoc, append-nil, arith, length-append}
+use Rattle.std.proofs.Common.{◌≡◌, ℕ, ◌+◌, ◌<◌, ◌≤◌, ltb, false, List, [], ◌∷◌, ◌++◌, length, take, drop, Ok, Err, sym, ap, ◌∙◌, append_assoc, append-nil, arith, length-append}
 use Rattle.std.proofs.lemmas.List.{drop-drop, length-drop, take-append-le, take-append-drop, take_all}
 use Rattle.std.proofs.lemmas.Bool.Decides.{nat_tests}
 use Rattle.std.specs.Int.{byte_at}
@@ -44,6 +44,43 @@ under_way_more whole todo from byte s t small way written =
           ∙ ap (λ n. drop n from) (omega arith);
       fits = omega (arith, one.0, ap length way.behind, length-drop (length s.before) from);
     }
+
+-- a field more
+pub under_way_on : (whole field todo from : List ℕ) (s t : Spot)
+    → IsUnderWay whole (field ++ todo) from s → put field s ≡ Ok t → IsUnderWay whole todo from t
+under_way_on whole field todo from s t way written =
+    let one = put_filled field s t written in
+    let before : t.before ≡ s.before ++ field = ap (λ (x : Spot). x.before) one.1 in
+    let after : t.after ≡ drop (length field) s.after = ap (λ (x : Spot). x.after) one.1 in
+    let long : length t.before ≡ length s.before + length field = ap length before
+    ∙ length-append s.before field in
+    record {
+      so_far = ap (λ x. x ++ todo) before ∙ append_assoc s.before field todo ∙ way.so_far;
+      behind = after ∙ ap (drop (length field)) way.behind
+          ∙ drop-drop (length field) (length s.before) from ∙ ap (λ n. drop n from) (omega arith);
+      fits = omega (arith, one.0, ap length way.behind, length-drop (length s.before) from);
+    }
+
+-- a field that finds no place
+pub under_way_short : (whole field todo from : List ℕ) (s : Spot) (e : NoRoom)
+    → IsUnderWay whole (field ++ todo) from s → put field s ≡ Err e → length from < length whole
+under_way_short whole field todo from s e way refused =
+    let r = put_refused field s e refused in
+    omega (
+      arith,
+      r.0,
+      ap length way.so_far,
+      length-append s.before (field ++ todo),
+      length-append field todo,
+      ap length way.behind,
+      length-drop (length s.before) from,
+    )
+
+-- no bytes are written anywhere
+pub put_none : (s : Spot) → put [] s ≡ Ok s
+put_none s =
+    let some : ltb (length s.after) 0 ≡ false = grind (arith, nat_tests) in
+    rw some (ap (λ x. Ok (record { before = x; after = s.after })) (append-nil s.before))
 
 -- the last byte was written: the whole buffer, and how much of it
 pub under_way_done : (whole from last bytes : List ℕ) (at n : ℕ)

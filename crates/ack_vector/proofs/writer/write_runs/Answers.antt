@@ -1,43 +1,34 @@
-use Rattle.std.proofs.Common.{arith, refl, ◌∙◌, rules}
-use Rattle.std.proofs.lemmas.Result.{err_from_is_err_and}
+use Rattle.std.proofs.Common.{◌<◌, ◌+◌, [], false, get_or, drop, length, rules, arith}
+use Rattle.std.proofs.lemmas.List.{at_drop_more}
 use Rattle.mt_base.specs.OutView.{spot}
-use Rattle.mt_base.proofs.Bytes.{under_way_done, full_of}
 use Rattle.ack_vector.specs.Longest.{elements_of}
-use Rattle.ack_vector.proofs.WriterLemmas.{written_more, written_full, written_all}
+use Rattle.ack_vector.specs.RunWriting.{kept}
+use Rattle.ack_vector.proofs.WriterLemmas.{loop_on, loop_short, itself}
 use Rattle.ack_vector.proofs.writer.write_runs.Goals as goal
 
 pub loop-flag-preserved : goal.loop-flag-preserved
-loop-flag-preserved c = (
-  written_more (elements_of c.args.flags.now) c.loop-flag.rest.now _ c.args.out.now
-      c.in-Some.flag.now c.stretch-length.result c.element.result
-      (spot c.loop-flag.place) (spot c.put_u8.new.self) c.in-Some.ensures.value
-      c.stretch-length.ensures.exact c.element.ensures (search rules)
-      c.loop-flag.invariant.0 c.in_ok-put_u8.ensures.written,
-  search rules,
-)
+loop-flag-preserved c =
+    let w = c.loop-flag.writer in
+    let flags = c.args.flags.now in
+    let i = c.loop-flag.flag-index in (
+      loop_on (elements_of flags) _ w c.flag.new.self (get_or flags i false) _ (drop (i + 1) flags)
+          (spot c.loop-flag.place) (spot c.flag.new.out)
+          (at_drop_more (λ x. x) flags i false (omega arith)) c.loop-flag.invariant.0
+          (c.in_ok-flag.ensures.stands (kept w) [] (itself w)) c.in_ok-flag.ensures.written,
+      search rules,
+    )
 
-pub returns-in_err-put_u8 : goal.returns-in_err-put_u8
-returns-in_err-put_u8 c =
-    let e = c.in_err-put_u8.field-0.0 in
-    let full = written_full (elements_of c.args.flags.now) c.loop-flag.rest.now c.args.out.now
-    c.in-Some.flag.now c.stretch-length.result c.element.result
-    (spot c.loop-flag.place) e c.in-Some.ensures.value c.stretch-length.ensures.exact
-    c.element.ensures
-    c.loop-flag.invariant.0 c.in_err-put_u8.ensures.written in
-    let p = err_from_is_err_and c.from_residual.result c.from_residual.ensures.1 in
-    let o = c.put_u8.new.self in
-    rw p.1 (record {
-      ok = tt;
-      fits = λ enough. absurd (omega (arith, full.more));
-      no_room = (full.more, p.2 ∙ full.place);
-      filled = full_of (elements_of c.args.flags.now) c.args.out.now _ o.bytes.now o.at
-          (spot c.loop-flag.place) (spot o) e full c.in_err-put_u8.ensures.unchanged refl
-          (search rules);
-    })
+-- an element that finds no place was counted before
+never : (c : goal.After-from_residual) → ⊥
+never c =
+    let flags = c.args.flags.now in
+    let i = c.loop-flag.flag-index in
+    let short : length c.args.out.now < length (elements_of flags) =
+    loop_short (elements_of flags) _ c.loop-flag.writer (get_or flags i false) _
+    (drop (i + 1) flags) (spot c.loop-flag.place) _
+    (at_drop_more (λ x. x) flags i false (omega arith)) c.loop-flag.invariant.0
+    c.in_err-flag.ensures.written in
+    omega (arith, short, c.if-out-count.false, c.count.ensures)
 
-pub returns-clause-ok : goal.returns-clause-ok
-returns-clause-ok c =
-    let all = written_all (elements_of c.args.flags.now) c.loop-flag.rest.now c.args.out.now
-    (spot c.loop-flag.place) c.in_default.ensures.value c.loop-flag.invariant.0 in
-    under_way_done (elements_of c.args.flags.now) c.args.out.now _ c.loop-flag.place.bytes.now
-    c.loop-flag.place.at c.at.result all c.at.ensures (search rules)
+pub returns-in_err-flag : goal.returns-in_err-flag
+returns-in_err-flag c = absurd (never c)
