@@ -13,7 +13,6 @@ mod frame;
 mod kind;
 mod laws;
 mod part;
-mod room;
 mod stop;
 mod tunnel;
 mod value;

@@ -1,93 +1,83 @@
 //! Writing tunnel PDUs and main frames.
 
-ghost use Rattle.std.specs.Prelude.{◌≡◌, ◌+◌, ◌<◌, ◌≤◌, ◌^◌, ◌++◌, ◌∷◌, [], length, drop, IfOk, IfErr, OnOk, OnErr, Err, ℕ};
-ghost use Rattle.mt_base.specs.Writing.{Writes, put, puts, joined};
-ghost use Rattle.mt_base.specs.OutView.{spot};
+ghost use Rattle.std.specs.Prelude.{◌≡◌, ◌+◌, ◌<◌, ◌≤◌, ◌^◌, ◌++◌, ◌∷◌, [], length, drop, IfOk, IfErr, OnErr, Err, ℕ};
+ghost use Rattle.mt_base.specs.Writing.{puts, joined};
 ghost use Rattle.tunnel_pdus.specs.Value.{FitsPdu, FitsFrame, pdu_fields, frame_fields};
 ghost use Rattle.tunnel_pdus.specs.Views.{pdu_of, frame_of};
 
 use crate::action::{CREATE_REQUEST, CREATE_RESPONSE, DATA};
 use crate::kind::{CHANNEL, REQUEST, RESPONSE, protocol_code};
-use crate::room::{pass_frame, pass_pdu};
 use crate::value::{MainFrame, TunnelPdu};
-use mt_base::{NoRoom, Out, Room};
+use mt_base::{NoRoom, Place, Spell};
 
 /// The length of a tunnel header without sub-headers.
 const HEADER: u8 = 4;
 
-/// Writes the fields of a tunnel PDU in order.
-fn put_pdu(out: &mut Out<'_>, pdu: &TunnelPdu<'_>) -> Result<(), NoRoom>
-    requires { FitsPdu (pdu_of pdu.now) }
-    ensures same { out.new.bytes.ghost_name ≡ out.old.bytes.ghost_name }
-    ensures written { Writes (spot out.new) result (puts (pdu_fields (pdu_of pdu.now)) (spot out.old)) }
-{
-    match *pdu {
-        TunnelPdu::CreateRequest { id, cookie } => {
-            out.put(&[CREATE_REQUEST])?;
-            out.put_u16_le(24)?;
-            out.put(&[HEADER])?;
-            out.put_u32_le(id)?;
-            out.put(&[0, 0, 0, 0])?;
-            out.put(cookie)
-        }
-        TunnelPdu::CreateResponse { hr } => {
-            out.put(&[CREATE_RESPONSE])?;
-            out.put_u16_le(4)?;
-            out.put(&[HEADER])?;
-            out.put_u32_le(hr)
-        }
-        TunnelPdu::Data { payload } => {
-            out.put(&[DATA])?;
-            out.put_u16_le(payload.len() as u16)?;
-            out.put(&[HEADER])?;
-            out.put(payload)
+impl Spell for TunnelPdu<'_> {
+    ghost use Rattle.tunnel_pdus.specs.Value.{FitsPdu, pdu_fields};
+    ghost use Rattle.tunnel_pdus.specs.Views.{pdu_of};
+
+    ghost fields = { λ pdu. pdu_fields (pdu_of pdu) };
+
+    ghost fits = { λ pdu. FitsPdu (pdu_of pdu) };
+
+    fn spell<P: Place>(&self, place: &mut P) -> Result<(), NoRoom> {
+        match *self {
+            TunnelPdu::CreateRequest { id, cookie } => {
+                place.put(&[CREATE_REQUEST])?;
+                place.put_u16_le(24)?;
+                place.put(&[HEADER])?;
+                place.put_u32_le(id)?;
+                place.put(&[0, 0, 0, 0])?;
+                place.put(cookie)
+            }
+            TunnelPdu::CreateResponse { hr } => {
+                place.put(&[CREATE_RESPONSE])?;
+                place.put_u16_le(4)?;
+                place.put(&[HEADER])?;
+                place.put_u32_le(hr)
+            }
+            TunnelPdu::Data { payload } => {
+                place.put(&[DATA])?;
+                place.put_u16_le(payload.len() as u16)?;
+                place.put(&[HEADER])?;
+                place.put(payload)
+            }
         }
     }
 }
 
-/// Writes the fields of a main frame in order.
-fn put_frame(out: &mut Out<'_>, frame: &MainFrame<'_>) -> Result<(), NoRoom>
-    requires { FitsFrame (frame_of frame.now) }
-    ensures same { out.new.bytes.ghost_name ≡ out.old.bytes.ghost_name }
-    ensures written { Writes (spot out.new) result (puts (frame_fields (frame_of frame.now)) (spot out.old)) }
-{
-    match *frame {
-        MainFrame::Request { id, kind, cookie } => {
-            out.put(&[REQUEST])?;
-            out.put_u16_le(24)?;
-            out.put_u32_le(id)?;
-            out.put_u16_le(protocol_code(kind))?;
-            out.put(&[0, 0])?;
-            out.put(cookie)
-        }
-        MainFrame::Response { id, hr } => {
-            out.put(&[RESPONSE])?;
-            out.put_u16_le(8)?;
-            out.put_u32_le(id)?;
-            out.put_u32_le(hr)
-        }
-        MainFrame::Channel { pdu } => {
-            out.put(&[CHANNEL])?;
-            out.put_u16_le(pdu.len() as u16)?;
-            out.put(pdu)
+impl Spell for MainFrame<'_> {
+    ghost use Rattle.tunnel_pdus.specs.Value.{FitsFrame, frame_fields};
+    ghost use Rattle.tunnel_pdus.specs.Views.{frame_of};
+
+    ghost fields = { λ frame. frame_fields (frame_of frame) };
+
+    ghost fits = { λ frame. FitsFrame (frame_of frame) };
+
+    fn spell<P: Place>(&self, place: &mut P) -> Result<(), NoRoom> {
+        match *self {
+            MainFrame::Request { id, kind, cookie } => {
+                place.put(&[REQUEST])?;
+                place.put_u16_le(24)?;
+                place.put_u32_le(id)?;
+                place.put_u16_le(protocol_code(kind))?;
+                place.put(&[0, 0])?;
+                place.put(cookie)
+            }
+            MainFrame::Response { id, hr } => {
+                place.put(&[RESPONSE])?;
+                place.put_u16_le(8)?;
+                place.put_u32_le(id)?;
+                place.put_u32_le(hr)
+            }
+            MainFrame::Channel { pdu } => {
+                place.put(&[CHANNEL])?;
+                place.put_u16_le(pdu.len() as u16)?;
+                place.put(pdu)
+            }
         }
     }
-}
-
-/// Whether all fields of a tunnel PDU find a place.
-fn find_room(pdu: &TunnelPdu<'_>, out: &[u8]) -> Result<(), NoRoom>
-    ensures found { OnOk result (length (joined (pdu_fields (pdu_of pdu.now))) ≤ length out.now) }
-    ensures refused { IfErr result (λ e. puts (pdu_fields (pdu_of pdu.now)) (record { before = []; after = out.now }) ≡ Err e) }
-{
-    pass_pdu(&mut Room::new(out.len()), pdu)
-}
-
-/// Whether all fields of a main frame find a place.
-fn find_frame_room(frame: &MainFrame<'_>, out: &[u8]) -> Result<(), NoRoom>
-    ensures found { OnOk result (length (joined (frame_fields (frame_of frame.now))) ≤ length out.now) }
-    ensures refused { IfErr result (λ e. puts (frame_fields (frame_of frame.now)) (record { before = []; after = out.now }) ≡ Err e) }
-{
-    pass_frame(&mut Room::new(out.len()), frame)
 }
 
 /// Writes a tunnel PDU at the front of `out`, and gives the number of its bytes (MS-RDPEMT section
@@ -101,10 +91,7 @@ pub fn write_tunnel(pdu: &TunnelPdu<'_>, out: &mut [u8]) -> Result<usize, NoRoom
     ensures no_room { IfErr result (λ e. puts (pdu_fields (pdu_of pdu.now)) (record { before = []; after = out.old }) ≡ Err e) }
     ensures unchanged { OnErr result (out.new ≡ out.old) }
 {
-    find_room(pdu, out)?;
-    let mut place = Out::new(out);
-    put_pdu(&mut place, pdu)?;
-    Ok(place.at())
+    mt_base::write(pdu, out)
 }
 
 /// Writes a main frame at the front of `out`, and gives the number of its bytes. What is reserved
@@ -118,8 +105,5 @@ pub fn write_frame(frame: &MainFrame<'_>, out: &mut [u8]) -> Result<usize, NoRoo
     ensures no_room { IfErr result (λ e. puts (frame_fields (frame_of frame.now)) (record { before = []; after = out.old }) ≡ Err e) }
     ensures unchanged { OnErr result (out.new ≡ out.old) }
 {
-    find_frame_room(frame, out)?;
-    let mut place = Out::new(out);
-    put_frame(&mut place, frame)?;
-    Ok(place.at())
+    mt_base::write(frame, out)
 }
