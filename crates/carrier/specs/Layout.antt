@@ -62,12 +62,14 @@ pub record Received : Type 0 where
   pub seen : List ℕ
 
 -- The bounds of a link: those of its windows; the bytes of a datagram; the bytes of a datagram that
--- carries both a part and what was received; how many expiries in a row a link survives.
+-- carries both a part and what was received; how many expiries in a row a link survives; and how far
+-- below the last number received the number lies, at most, that a telling names.
 pub record Bounds : Type 0 where
   pub windows : Limits
   pub datagram : ℕ
   pub with_telling : ℕ
   pub expiries : ℕ
+  pub tell : ℕ
 
 -- The layout of a link's datagrams at one end: the bounds; the first number of this end's parts and
 -- transmissions, and of the other end's; how many low parts a number has; whether parts are told, or

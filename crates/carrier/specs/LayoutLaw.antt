@@ -1,6 +1,6 @@
 -- What is asked of a layout: it reads back what it spells, tells only what was received, and leaves
 -- room between the numbers that have the same low part.
-use Rattle.std.specs.Prelude.{◌≡◌, ℕ, ◌*◌, ◌%◌, ◌<◌, ◌≤◌, Bool, true, List, length, All, if◌then◌else◌, Option, Some, None, IfSome, option_map}
+use Rattle.std.specs.Prelude.{◌≡◌, ℕ, ◌+◌, ◌*◌, ◌%◌, ◌<◌, ◌≤◌, Bool, true, List, length, All, if◌then◌else◌, Option, Some, None, IfSome, option_map}
 use Rattle.mt_windows.specs.Arrived.{has_part}
 use Rattle.mt_windows.specs.Noted.{is_noted}
 use Rattle.carrier.specs.Layout.{Layout, Received, Shows, Shown, Load, Empty, Carries, Telling, Datagram, Carried, named_in, with_named, tells}
@@ -62,6 +62,10 @@ pub record IsLayout (layout : Layout) : Type 0 where
       → length (layout.spell (datagram_of layout r above tells floor load)) ≤ layout.bounds.datagram
   -- a datagram of fewer than eight bytes shows nothing
   pub tiny : (datagram : List ℕ) → length datagram < 8 → shown_in (layout.read datagram) ≡ None
-  -- the last number received is named, and only numbers that were received are told
-  pub named : (r : Received) (above : ℕ) → named_in (layout.told r above) ≡ last_told layout r
+  -- the number that is named lies at most so far below the last number received, and not above it,
+  -- where the floor doesn't; and only numbers that were received are told
+  pub named_near : (r : Received) (above : ℕ)
+      → last_told layout r ≤ named_in (layout.told r above) + layout.bounds.tell
+  pub named_within : (r : Received) (above : ℕ) → above ≤ last_told layout r
+      → named_in (layout.told r above) ≤ last_told layout r
   pub received : (r : Received) (above n : ℕ) → layout.peer ≤ n → tells (layout.told r above) n ≡ true → is_received layout r n ≡ true

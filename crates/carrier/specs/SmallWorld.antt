@@ -63,6 +63,7 @@ small own peer = record {
     datagram = 10;
     with_telling = 10;
     expiries = 3;
+    tell = 0;
   };
   own = own;
   peer = peer;

@@ -21,6 +21,7 @@ use Rattle.carrier.specs.Joined.{Step, At, half, SentAgo, MeantAgo, Timely}
 pub record Margins (late : ℕ) (layouts : Role → Layout) : Type 0 where
   pub layout : (s : Role) → IsLayout (layouts s)
   pub tells_parts : (s : Role) → (layouts s).tells_parts ≡ true
+  pub tells_last : (s : Role) → (layouts s).bounds.tell ≡ 0
   pub reads : (s : Role) (datagram : List ℕ)
       → (layouts s).read datagram ≡ (layouts (other s)).read datagram
   pub faces : (s : Role) → (layouts s).own ≡ (layouts (other s)).peer

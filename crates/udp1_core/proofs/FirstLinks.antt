@@ -28,6 +28,7 @@ pub margins : (late server client version : ℕ) → server < 2 ^ 32 → client 
 margins late server client version server_number client_number in_time = record {
   layout = layout;
   tells_parts = tells;
+  tells_last = tells_last;
   reads = reads;
   faces = faces;
   bounds = bounds;
@@ -42,6 +43,10 @@ margins late server client version server_number client_number in_time = record 
     layout : (s : Role) → IsLayout (link_layouts server client version s)
     layout Server = is_layout _ _ _ _ (omega arith) (omega arith)
     layout Client = is_layout _ _ _ _ (omega arith) (omega arith)
+
+    tells_last : (s : Role) → (link_layouts server client version s).bounds.tell ≡ 0
+    tells_last Server = refl
+    tells_last Client = refl
 
     tells : (s : Role) → (link_layouts server client version s).tells_parts ≡ true
     tells Server = refl

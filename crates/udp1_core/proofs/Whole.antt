@@ -21,6 +21,7 @@ is_layout wait delay own peer some_own some_peer = record {
   fits = λ r above tells floor load is.
       omega (arith, short_enough wait delay own peer r above tells floor load is);
   tiny = λ datagram few. Headless.tiny datagram few;
-  named = λ r above. refl;
+  named_near = λ r above. omega arith;
+  named_within = λ r above low. omega arith;
   received = λ r above n from is. only_accepted peer above r.parts n is;
 }

@@ -101,8 +101,9 @@ packet_with d = record {
 
 -- ---- the layout
 
+-- a telling names the last number received
 abbrev pub bounds : Bounds
-bounds = record { windows = limits; datagram = 1232; with_telling = 1132; expiries = 16 }
+bounds = record { windows = limits; datagram = 1232; with_telling = 1132; expiries = 16; tell = 0 }
 
 -- the layout at an end whose parts are numbered from `own` on, and the other end's from `peer` on,
 -- with this shortest wait of its timer and this delay of a telling

@@ -3,16 +3,20 @@
 ghost use Rattle.std.specs.Prelude.{◌≡◌, ◌≤◌, ℕ, Bool, List, Option, Some, None, IfSome, length};
 ghost use Rattle.carrier.specs.Due.{due};
 ghost use Rattle.carrier.specs.Law.{Faithful};
-ghost use Rattle.carrier.specs.Layout.{Carried, Received};
+ghost use Rattle.carrier.specs.Layout.{Carried, Received, named_in};
 ghost use Rattle.carrier.specs.LayoutLaw.{IsCarried, IsLayout, datagram_of};
+ghost use Rattle.carrier.specs.Receiving.{last_told};
 ghost use Rattle.udp1_core.specs.Exchange.{end, part, part_again, telling, given, sent, came, told};
 ghost use Rattle.udp1_core.specs.FirstLayout.{first_layout};
 
-/// The first layout reads back what it spells, tells only what was received, and fits its
-/// datagrams: a part can always carry what was received.
+/// The first layout reads back what it spells, tells only what was received and names the last
+/// number received, and fits its datagrams: a part can always carry what was received.
 pub fn first_layout_is_read()
     ensures reads { (wait delay own peer : ℕ) → 1 ≤ own → 1 ≤ peer
         → IsLayout (first_layout wait delay own peer) }
+    ensures named { (wait delay own peer : ℕ) (r : Received) (above : ℕ)
+        → let layout = first_layout wait delay own peer in
+        named_in (layout.told r above) ≡ last_told layout r }
     ensures with_telling { (wait delay own peer : ℕ) (r : Received) (above : ℕ) (tells : Bool)
         (floor : Option ℕ) (load : Option Carried)
         → let layout = first_layout wait delay own peer in

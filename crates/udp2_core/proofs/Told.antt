@@ -6,7 +6,7 @@ use Rattle.std.proofs.lemmas.Bool.{cases_lt, false≢true, and_parts, le-leb, lt
 use Rattle.std.proofs.lemmas.List.{length-replicate, length-reverse}
 use Rattle.std.proofs.lemmas.Option.{slice_get_past}
 use Rattle.mt_windows.specs.Noted.{is_noted, is_seen}
-use Rattle.carrier.specs.Layout.{Telling, Upto, From, tells}
+use Rattle.carrier.specs.Layout.{Telling, Upto, From, named_in, tells}
 use Rattle.udp2_core.specs.SecondLayout.{all_seen, flags_from, last_of, telling_of, told_from}
 
 -- ---- the form
@@ -38,6 +38,30 @@ formed seen above h false =
 pub told_formed : (above : ℕ) (seen : List ℕ) → IsTold (telling_of above seen)
 told_formed above seen =
     let h = last_of seen in formed seen above h (all_seen seen (h + 1 - min 16 h) (min 16 h))
+
+-- ---- the number that is named
+
+near_where : (seen : List ℕ) (above h : ℕ) (all : Bool) → h ≤ named_in (told_where seen above h all) + 512
+near_where seen above h true = omega arith
+near_where seen above h false = omega arith
+
+within_where : (seen : List ℕ) (above h : ℕ) (all : Bool) → above ≤ h
+    → all_seen seen (h + 1 - min 16 h) (min 16 h) ≡ all → named_in (told_where seen above h all) ≤ h
+within_where seen above h true low is = omega arith
+within_where seen above zero false low is = absurd (cc)
+within_where seen above (suc h) false low is = omega (arith, low)
+
+-- it is at most 512 below the last one seen
+pub named_near : (above : ℕ) (seen : List ℕ) → last_of seen ≤ named_in (telling_of above seen) + 512
+named_near above seen =
+    let h = last_of seen in near_where seen above h (all_seen seen (h + 1 - min 16 h) (min 16 h))
+
+-- and not above that one, where the floor isn't
+pub named_within : (above : ℕ) (seen : List ℕ) → above ≤ last_of seen
+    → named_in (telling_of above seen) ≤ last_of seen
+named_within above seen low =
+    let h = last_of seen in
+    within_where seen above h (all_seen seen (h + 1 - min 16 h) (min 16 h)) low refl
 
 -- ---- only what was seen
 

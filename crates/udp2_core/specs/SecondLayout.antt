@@ -122,7 +122,7 @@ packet_with d = record {
 -- ---- the layout
 
 abbrev pub bounds : Bounds
-bounds = record { windows = limits; datagram = 1232; with_telling = 1132; expiries = 16 }
+bounds = record { windows = limits; datagram = 1232; with_telling = 1132; expiries = 16; tell = TELL }
 
 -- The layout at either end. Parts and transmissions are numbered from 1 on. The timer waits at least
 -- 300 milliseconds, and one telling may be owed for 50.

@@ -1,32 +1,20 @@
 //! Laws of the second layout.
 
-ghost use Rattle.std.specs.Prelude.{◌≡◌, ◌<◌, ◌≤◌, ℕ, Bool, List, Option, Some, None, true, IfSome, length};
+ghost use Rattle.std.specs.Prelude.{◌≡◌, ◌≤◌, ℕ, Bool, Option, Some, None, IfSome, length};
 ghost use Rattle.carrier.specs.Due.{due};
 ghost use Rattle.carrier.specs.Law.{Faithful};
-ghost use Rattle.carrier.specs.Layout.{Carried, Received, Shows, tells};
-ghost use Rattle.carrier.specs.LayoutLaw.{IsCarried, datagram_of, is_received, shown_of};
-ghost use Rattle.carrier.specs.Receiving.{shown_in};
+ghost use Rattle.carrier.specs.Layout.{Carried, Received};
+ghost use Rattle.carrier.specs.LayoutLaw.{IsCarried, IsLayout, datagram_of};
 ghost use Rattle.udp2_core.specs.Exchange.{came, given, part, part_again, sent, telling, told};
 ghost use Rattle.udp2_core.specs.SecondLayout.{second_layout};
 
-/// The second layout reads back what it spells, tells only what was received, and fits its
-/// datagrams: a part can always carry what was received. A datagram of fewer than eight bytes shows
-/// nothing.
+/// The second layout reads back what it spells, tells only what was received, of the last 512 numbers
+/// up to the last one, and fits its datagrams: a part can always carry what was received.
 pub fn second_layout_is_read()
-    ensures read_back { (r : Received) (above : ℕ) (is_telling : Bool) (floor : Option ℕ) (load : Option Carried)
-        → let d = datagram_of second_layout r above is_telling floor load in
-        IfSome load (IsCarried second_layout)
-        → second_layout.read (second_layout.spell d) ≡ Shows (shown_of second_layout d) }
-    ensures fits { (r : Received) (above : ℕ) (is_telling : Bool) (floor : Option ℕ) (load : Option Carried)
-        → IfSome load (IsCarried second_layout)
-        → length (second_layout.spell (datagram_of second_layout r above is_telling floor load)) ≤ 1232 }
+    ensures reads { IsLayout second_layout }
     ensures with_telling { (r : Received) (above : ℕ) (is_telling : Bool) (floor : Option ℕ) (load : Option Carried)
         → IfSome load (IsCarried second_layout)
         → length (second_layout.spell (datagram_of second_layout r above is_telling floor load)) ≤ 1132 }
-    ensures tiny { (datagram : List ℕ) → length datagram < 8
-        → shown_in (second_layout.read datagram) ≡ None }
-    ensures received { (r : Received) (above n : ℕ) → 1 ≤ n
-        → tells (second_layout.told r above) n ≡ true → is_received second_layout r n ≡ true }
 {}
 
 /// A part of two bytes is sent at once, and again when the timer expires; where it came it is told

@@ -1,5 +1,5 @@
 -- What a datagram that comes does to both directions.
-use Rattle.std.proofs.Common.{◌≡◌, ℕ, ◌+◌, ◌-◌, ◌<◌, ◌≤◌, ◌⊎◌, inl, inr, Bool, true, false, ltb, cond, List, length, Option, Some, None, is_some, refl, sym, ap, ◌∙◌, subst, arith}
+use Rattle.std.proofs.Common.{◌≡◌, ℕ, ◌+◌, ◌-◌, ◌<◌, ◌≤◌, ◌⊎◌, inl, inr, Bool, true, false, ltb, leb, cond, List, length, Option, Some, None, is_some, refl, sym, ap, ◌∙◌, subst, arith}
 use Rattle.std.proofs.lemmas.Bool.{cases_lt}
 use Rattle.std.proofs.lemmas.Bool.Decides.{nat_tests}
 use Rattle.mt_base.specs.Trace.{Trace, ◌▷◌}
@@ -8,13 +8,14 @@ use Rattle.mt_windows.specs.Sending.{given as given_to, cuts, transmissions, low
 use Rattle.carrier.specs.declared.state.Took.{Took}
 use Rattle.carrier.specs.declared.state.Reason.TheVariants as reason
 use Rattle.carrier.specs.Entries.{Entry, In, pulled}
-use Rattle.carrier.specs.Layout.{Layout, Bounds, Carried, Datagram, Refuses, Shows, Shown, Telling, named_in, with_named, read_near, tells}
-use Rattle.carrier.specs.Receiving.{reading, shown_in, effect, has_effect, received, accepted, receives, parts_with, arrival, Arrival}
+use Rattle.carrier.specs.Layout.{Layout, Bounds, Carried, Datagram, Received, Refuses, Shows, Shown, Telling, named_in, with_named, read_near, tells}
+use Rattle.carrier.specs.Receiving.{reading, shown_in, effect, has_effect, received, accepted, receives, parts_with, arrival, Arrival, floor, floor_of, floor_read, floor_shown, last_part, last_seen, last_told}
 use Rattle.carrier.specs.Sending.{acts, hears, hears_named, hears_telling, tell_all, tell_parts, tell_transmissions, told_reference}
 use Rattle.carrier.specs.LayoutLaw.{IsLayout, shown_of, load_shown, telling_shown, low_part}
 use Rattle.carrier.proofs.links.Invariant.{Even, Follows, FliesLoad, Told, Hears, Accepts}
 use Rattle.carrier.proofs.links.Steps.{way_hears, even_hears, takes, way_takes}
 use Rattle.carrier.proofs.links.Facing.{Facing, same_window}
+use Rattle.carrier.proofs.links.Parts.{last_is}
 use Rattle.carrier.proofs.links.Hears.{hears_nothing, hears_parts, tell_given, named_with, with_again, with_own}
 use Rattle.carrier.proofs.links.Reading.{named_is, arrives}
 use Rattle.carrier.proofs.links.Ends.{Spelled, Both}
@@ -85,6 +86,29 @@ effects late l m t u S R T U o f g h (Heard k d soon sent e) =
     let taking = takes_load late l m t u k d.load g h.there h.back.now soon (h.back.loads k d sent) in
     subst (Effects l m t u) (sym e) (record { heard = hearing.0; gave = hearing.1; takes_it = taking.0; accepts = taking.1 })
 
+-- the floor stays within what was received
+floor_low : (l : Layout) (r : Received) (n : ℕ) (after : Received) (old : ℕ) (o : Option Shown) → old ≤ last_told l after → floor_shown l r n after old o ≤ last_told l after
+floor_low l r n after old None h = h
+floor_low l r n after old (Some shown) h = by_floor shown.floor
+  where
+    by_test : (x : ℕ) (b : Bool) → leb x (last_told l after) ≡ b → cond b x old ≤ last_told l after
+    by_test x true e = grind (arith, nat_tests)
+    by_test x false e = h
+
+    by_number : (x : Option ℕ) → floor_of (last_told l after) old x ≤ last_told l after
+    by_number None = h
+    by_number (Some x) = by_test x (leb x (last_told l after)) refl
+
+    by_floor : (low : Option ℕ) → floor_shown l r n after old (Some (record shown { floor = low })) ≤ last_told l after
+    by_floor None = h
+    by_floor (Some low) = by_number (floor_read l r n low)
+
+last_grows : (l : Layout) (r after : Received) → l.tells_parts ≡ true → 1 ≤ l.peer → Accepts r.parts after.parts → last_told l r ≤ last_told l after
+last_grows l r after tells some g =
+    let old = ap (λ b. cond b (last_part l r) (last_seen l r)) tells in
+    let new = ap (λ b. cond b (last_part l after) (last_seen l after)) tells in
+    omega (arith, old, new, last_is r.parts l.peer some, last_is after.parts l.peer some, g.far)
+
 pub comes : (late : ℕ) (l m : Layout) (t u : Trace Entry) (now : ℕ) (datagram : List ℕ) (took : Took) (S R : ℕ → Datagram → Type 0) (T U : ℕ → List ℕ → Type 0) → Facing late l m → Facing late m l
     → Comes late m R (effect l took datagram) → Both l m t u S R T U → Both l m (t ▷ In now datagram took) u S R T U
 comes late l m t u now datagram took S R T U f g c h =
@@ -97,6 +121,9 @@ comes late l m t u now datagram took S R T U f g c h =
       there = h.there;
       given_here = x.gave ∙ h.given_here;
       given_there = h.given_there;
+      low_here = floor_low l (received l t) (length (pulled t)) (receives l (received l t) (length (pulled t)) o) (floor l t) o
+          (omega (arith, h.low_here, last_grows l (received l t) (receives l (received l t) (length (pulled t)) o) g.there_tells g.there.some_peer x.accepts));
+      low_there = h.low_there;
       means_here = h.means_here;
       means_there = h.means_there;
     }

@@ -8,8 +8,8 @@ use Rattle.mt_windows.specs.Sending.{Act, given as given_to, pieces, piece, wait
 use Rattle.mt_windows.proofs.Counts.{pieces_count}
 use Rattle.mt_windows.proofs.Pieces.{pieces_and_rest}
 use Rattle.carrier.specs.Entries.{Entry, Gave, Polled, Pulled, given, pulled}
-use Rattle.carrier.specs.Layout.{Layout, Datagram, Shows}
-use Rattle.carrier.specs.Receiving.{received, accepted, floor}
+use Rattle.carrier.specs.Layout.{Layout, Datagram, Received, Shows}
+use Rattle.carrier.specs.Receiving.{received, accepted, floor, last_told}
 use Rattle.carrier.specs.Sending.{acts, sends}
 use Rattle.carrier.specs.Due.{meant, due}
 use Rattle.carrier.specs.LayoutLaw.{shown_of}
@@ -35,6 +35,8 @@ pub record Both (l m : Layout) (t u : Trace Entry) (S R : ℕ → Datagram → T
   pub there : Even m.bounds.windows m.own (acts m u)
   pub given_here : given_to (acts l t) ≡ given t
   pub given_there : given_to (acts m u) ≡ given u
+  pub low_here : floor l t ≤ last_told l (received l t)
+  pub low_there : floor m u ≤ last_told m (received m u)
   pub means_here : (k : ℕ) (datagram : List ℕ) → T k datagram → (f : Datagram) × S k f × Spelled l f datagram
   pub means_there : (k : ℕ) (datagram : List ℕ) → U k datagram → (f : Datagram) × R k f × Spelled m f datagram
 
@@ -46,6 +48,8 @@ swap l m t u S R T U h = record {
   there = h.here;
   given_here = h.given_there;
   given_there = h.given_here;
+  low_here = h.low_there;
+  low_there = h.low_here;
   means_here = h.means_there;
   means_there = h.means_here;
 }
@@ -66,6 +70,8 @@ gives l m t u S R T U bytes is h = record {
   there = h.there;
   given_here = ap (λ xs. xs ++ bytes) h.given_here;
   given_there = h.given_there;
+  low_here = h.low_here;
+  low_there = h.low_there;
   means_here = h.means_here;
   means_there = h.means_there;
 }
@@ -78,20 +84,24 @@ pulls l m t u S R T U room bytes h = record {
   there = h.there;
   given_here = h.given_here;
   given_there = h.given_there;
+  low_here = h.low_here;
+  low_there = h.low_there;
   means_here = h.means_here;
   means_there = h.means_there;
 }
 
 -- a call that neither end looks at again
-pub same_ends : (l m : Layout) (t v u : Trace Entry) (S R : ℕ → Datagram → Type 0) (T U : ℕ → List ℕ → Type 0) → acts l v ≡ acts l t → accepted l v ≡ accepted l t → pulled v ≡ pulled t → given v ≡ given t → Both l m t u S R T U → Both l m v u S R T U
-same_ends l m t v u S R T U acts_are parts_are pulled_are given_are h = record {
+pub same_ends : (l m : Layout) (t v u : Trace Entry) (S R : ℕ → Datagram → Type 0) (T U : ℕ → List ℕ → Type 0) → acts l v ≡ acts l t → received l v ≡ received l t → pulled v ≡ pulled t → given v ≡ given t → floor l v ≡ floor l t → Both l m t u S R T U → Both l m v u S R T U
+same_ends l m t v u S R T U acts_are received_are pulled_are given_are floor_is h = record {
   out = subst (λ a. Way l.bounds.windows l.own a (accepted m u) (length (pulled u)) S R) (sym acts_are) h.out;
-  back = subst (λ parts. Way m.bounds.windows m.own (acts m u) parts (length (pulled v)) R S) (sym parts_are)
+  back = subst (λ (r : Received). Way m.bounds.windows m.own (acts m u) r.parts (length (pulled v)) R S) (sym received_are)
       (subst (λ xs. Way m.bounds.windows m.own (acts m u) (accepted l t) (length xs) R S) (sym pulled_are) h.back);
   here = subst (λ a. Even l.bounds.windows l.own a) (sym acts_are) h.here;
   there = h.there;
   given_here = ap given_to acts_are ∙ h.given_here ∙ sym given_are;
   given_there = h.given_there;
+  low_here = subst (λ r. floor l v ≤ last_told l r) (sym received_are) (subst (λ n. n ≤ last_told l (received l t)) (sym floor_is) h.low_here);
+  low_there = h.low_there;
   means_here = h.means_here;
   means_there = h.means_there;
 }
@@ -133,12 +143,14 @@ polls late l m t u now datagram S R S' R' T U T' U' f g is_due sets h =
       back = way_tells m.bounds.windows m.own (acts m u) (accepted l t) (length (pulled t)) R S R' S' h.back
           (λ e here. subst (λ (y : Datagram). Told m.bounds.windows m.own 0 (acts m u) (accepted l t) y.telling) (one e was.0 (sets.sent e here) was.1)
           (subst (λ y. Told m.bounds.windows m.own 0 (acts m u) (accepted l t) y) (sym s.telling)
-          (told_now late m l g (acts m u) (received l t) (length (pulled t)) h.there h.back.now (floor l t))))
+          (told_now late m l g (acts m u) (received l t) (length (pulled t)) h.there h.back.now (floor l t) h.low_here)))
           sets.older sets.none sets.older_there;
       here = s.even;
       there = h.there;
       given_here = s.grown.given_is ∙ h.given_here;
       given_there = h.given_there;
+      low_here = h.low_here;
+      low_there = h.low_there;
       means_here = means_here was.0 s was.1 was.2;
       means_there = means_there;
     }
@@ -183,6 +195,8 @@ both_start late l m S R T U f g no_s no_r no_t no_u = record {
   there = even_start late m l g;
   given_here = refl;
   given_there = refl;
+  low_here = omega arith;
+  low_there = omega arith;
   means_here = λ k d t. absurd (no_t k d t);
   means_there = λ k d u. absurd (no_u k d u);
 }

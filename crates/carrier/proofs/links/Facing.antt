@@ -15,6 +15,7 @@ pub record Facing (late : ℕ) (l m : Layout) : Type 0 where
   pub there : IsLayout m
   pub here_tells : l.tells_parts ≡ true
   pub there_tells : m.tells_parts ≡ true
+  pub there_last : m.bounds.tell ≡ 0
   pub reads : (datagram : List ℕ) → m.read datagram ≡ l.read datagram
   pub first : m.peer ≡ l.own
   pub bounds : m.bounds ≡ l.bounds
@@ -55,6 +56,7 @@ facing late layouts s h = record {
   there = h.layout (other s);
   here_tells = h.tells_parts s;
   there_tells = h.tells_parts (other s);
+  there_last = h.tells_last (other s);
   reads = λ d. sym (h.reads s d);
   first = sym (h.faces s);
   bounds = sym (h.bounds s);

@@ -1,9 +1,9 @@
 -- Lemmas on the parts that a receiver accepted.
-use Rattle.std.proofs.Common.{◌≡◌, ℕ, zero, suc, ◌+◌, ◌-◌, ◌<◌, ◌≤◌, Bool, true, false, ltb, leb, cond, List, [], ◌∷◌, ◌++◌, length, get_or, Option, Some, None, is_some, refl, sym, ap, ◌∙◌, subst, append_assoc, arith}
+use Rattle.std.proofs.Common.{◌≡◌, ℕ, zero, suc, ◌+◌, ◌-◌, ◌<◌, ◌≤◌, Bool, true, false, ltb, leb, cond, List, [], ◌∷◌, ◌++◌, length, get_or, Option, Some, None, is_some, unwrap_or, refl, sym, ap, ◌∙◌, subst, append_assoc, arith}
 use Rattle.std.proofs.lemmas.Bool.Decides.{nat_tests}
 use Rattle.mt_base.specs.Writing.{joined}
 use Rattle.mt_windows.specs.declared.receive.Accept.TheVariants.{New, Again, Beyond}
-use Rattle.mt_windows.specs.Arrived.{Parts, part_at, put, passed, drained, end_of, has_part, verdict}
+use Rattle.mt_windows.specs.Arrived.{Parts, part_at, put, passed, drained, end_of, greatest_part, has_part, verdict}
 
 -- ---- the place behind the greatest part
 
@@ -37,6 +37,14 @@ end_is_there (o ∷ parts) p h = by_test (end_is_there parts) (ltb 0 (end_of par
     by_test : ((q : ℕ) → end_of parts ≡ suc q → is_some (part_at parts q) ≡ true) → (t : Bool) → ltb 0 (end_of parts) ≡ t → cond t (suc (end_of parts)) (cond (is_some o) 1 0) ≡ suc p → is_some (part_at (o ∷ parts) p) ≡ true
     by_test rest true e is = there (end_of parts) p refl e is rest
     by_test rest false e is = here o p is
+
+-- the greatest part, or the one before the first
+pub last_is : (parts : Parts) (first : ℕ) → 1 ≤ first → unwrap_or (greatest_part first parts) (first - 1) + 1 ≡ first + end_of parts
+last_is parts first le = by_test (ltb 0 (end_of parts)) refl
+  where
+    by_test : (b : Bool) → ltb 0 (end_of parts) ≡ b → unwrap_or (cond b (Some (first + end_of parts - 1)) None) (first - 1) + 1 ≡ first + end_of parts
+    by_test true e = omega arith
+    by_test false e = grind (arith, nat_tests)
 
 -- ---- how far the parts are drained
 

@@ -6,12 +6,12 @@ use Rattle.mt_windows.specs.Arrived.{Parts, part_at, drained, end_of, greatest_p
 use Rattle.mt_windows.specs.Noted.{is_noted}
 use Rattle.mt_windows.specs.Sending.{Act, cuts, transmissions, lowest_or_next}
 use Rattle.carrier.specs.Layout.{Layout, Bounds, Carried, Received, Telling, Carries, named_in, read_near}
-use Rattle.carrier.specs.Receiving.{arrival, arrival_of, part_read, transmission_read, floor_read, next_part, last_seen, last_part}
+use Rattle.carrier.specs.Receiving.{arrival, arrival_of, part_read, transmission_read, floor_read, next_part, last_seen, last_part, last_told}
 use Rattle.carrier.specs.Sending.{told_reference}
 use Rattle.carrier.specs.LayoutLaw.{is_received, low_part}
 use Rattle.carrier.proofs.links.Invariant.{Even, Follows, Flies, Low, Told}
 use Rattle.carrier.proofs.links.Numbers.{below_lowest}
-use Rattle.carrier.proofs.links.Parts.{drained_within}
+use Rattle.carrier.proofs.links.Parts.{drained_within, last_is}
 use Rattle.carrier.proofs.links.Steps.{cuts_within, reached, end_within}
 use Rattle.carrier.proofs.links.Facing.{Facing, some_half, read_is}
 
@@ -27,9 +27,10 @@ module _ (late : ℕ) (l m : Layout) (f : Facing late l m) (a : Trace Act) (r : 
       omega (arith, cuts_within l.bounds.windows l.own a even, reached l.bounds.windows a r.parts n (lowest_or_next l.bounds.windows a) now (below_lowest l.bounds.windows a), now.room)
 
   -- a telling that is sent now
-  pub told_now : (above : ℕ) → Told l.bounds.windows l.own 0 a r.parts (m.told r above)
-  told_now above =
-      let named = f.there.named r above ∙ ap (λ b. cond b (last_part m r) (last_seen m r)) f.there_tells in
+  pub told_now : (above : ℕ) → above ≤ last_told m r → Told l.bounds.windows l.own 0 a r.parts (m.told r above)
+  told_now above low =
+      let last = ap (λ b. cond b (last_part m r) (last_seen m r)) f.there_tells in
+      let named : named_in (m.told r above) ≡ last_part m r = omega (arith, f.there.named_near r above, f.there.named_within r above low, f.there_last, last) in
       let number = last_is r.parts m.peer f.there.some_peer in
       let first = f.first in
       let far = reached l.bounds.windows a r.parts n (lowest_or_next l.bounds.windows a) now (below_lowest l.bounds.windows a) in
@@ -39,13 +40,6 @@ module _ (late : ℕ) (l m : Layout) (f : Facing late l m) (a : Trace Act) (r : 
         near = omega (arith, named, number, first, far, cuts_within l.bounds.windows l.own a even);
       }
     where
-      last_is : (parts : Parts) (first : ℕ) → 1 ≤ first → unwrap_or (greatest_part first parts) (first - 1) + 1 ≡ first + end_of parts
-      last_is parts first le = by_test (ltb 0 (end_of parts)) refl
-        where
-          by_test : (b : Bool) → ltb 0 (end_of parts) ≡ b → unwrap_or (cond b (Some (first + end_of parts - 1)) None) (first - 1) + 1 ≡ first + end_of parts
-          by_test true e = omega arith
-          by_test false e = grind (arith, nat_tests)
-
       got : (q : ℕ) → m.peer ≤ q → is_received m r q ≡ true → is_some (part_at r.parts (q - l.own)) ≡ true
       got q le is =
           let has : has_part m.peer r.parts q ≡ true = sym (ap (λ b. cond b (has_part m.peer r.parts q) (is_noted q r.seen)) f.there_tells) ∙ is in

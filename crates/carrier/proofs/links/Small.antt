@@ -81,7 +81,8 @@ small_layout own peer some_own some_peer = record {
   read_back = λ r above tells floor load h. small_back own peer tells (last r) (has_part peer r.parts (last r - 1)) (has_part peer r.parts (last r)) floor load;
   fits = λ r above tells floor load h. small_fits own peer tells (last r) (has_part peer r.parts (last r - 1)) (has_part peer r.parts (last r)) floor load h;
   tiny = small_tiny;
-  named = λ r above. refl;
+  named_near = λ r above. omega arith;
+  named_within = λ r above low. omega arith;
   received = λ r above n le is. small_tells (has_part peer r.parts) (last r) n is;
 }
   where
@@ -94,6 +95,7 @@ small_margins : Margins 2 small_layouts
 small_margins = record {
   layout = layout;
   tells_parts = tells_parts;
+  tells_last = tells_last;
   reads = reads;
   faces = faces;
   bounds = bounds;
@@ -112,6 +114,10 @@ small_margins = record {
     tells_parts : (s : Role) → (small_layouts s).tells_parts ≡ true
     tells_parts Server = refl
     tells_parts Client = refl
+
+    tells_last : (s : Role) → (small_layouts s).bounds.tell ≡ 0
+    tells_last Server = refl
+    tells_last Client = refl
 
     reads : (s : Role) (d : List ℕ) → (small_layouts s).read d ≡ (small_layouts (other s)).read d
     reads Server d = refl

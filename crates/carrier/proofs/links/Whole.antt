@@ -46,7 +46,7 @@ module _ (late : ℕ) (layouts : Role → Layout) (margins : Margins late layout
       comes late (layouts Server) (layouts Client) (half Server w) (half Client w) now datagram took (MeantAgo layouts Server w) (MeantAgo layouts Client w) (SentAgo Server w) (SentAgo Client w) front rear
       (came late (layouts Server) (layouts Client) took datagram (MeantAgo layouts Client w) (SentAgo Client w) rear h.means_there timely.0) h
   server_step w (Polled now None) law timely h =
-      same_ends (layouts Server) (layouts Client) (half Server w) (half Server w ▷ Polled now None) (half Client w) (MeantAgo layouts Server w) (MeantAgo layouts Client w) (SentAgo Server w) (SentAgo Client w) refl refl refl refl h
+      same_ends (layouts Server) (layouts Client) (half Server w) (half Server w ▷ Polled now None) (half Client w) (MeantAgo layouts Server w) (MeantAgo layouts Client w) (SentAgo Server w) (SentAgo Client w) refl refl refl refl refl h
   server_step w (Polled now (Some out)) law timely h =
       polls late (layouts Server) (layouts Client) (half Server w) (half Client w) now out (MeantAgo layouts Server w) (MeantAgo layouts Client w)
       (MeantAgo layouts Server (w ▷ At Server (Polled now (Some out)))) (MeantAgo layouts Client (w ▷ At Server (Polled now (Some out))))
@@ -66,7 +66,7 @@ module _ (late : ℕ) (layouts : Role → Layout) (margins : Margins late layout
       }) h
   server_step w (Pulled room bytes) law timely h = pulls (layouts Server) (layouts Client) (half Server w) (half Client w) (MeantAgo layouts Server w) (MeantAgo layouts Client w) (SentAgo Server w) (SentAgo Client w) room bytes h
   server_step w (Owed count) law timely h =
-      same_ends (layouts Server) (layouts Client) (half Server w) (half Server w ▷ Owed count) (half Client w) (MeantAgo layouts Server w) (MeantAgo layouts Client w) (SentAgo Server w) (SentAgo Client w) refl refl refl refl h
+      same_ends (layouts Server) (layouts Client) (half Server w) (half Server w ▷ Owed count) (half Client w) (MeantAgo layouts Server w) (MeantAgo layouts Client w) (SentAgo Server w) (SentAgo Client w) refl refl refl refl refl h
   server_step w (Posted bytes) law timely h = absurd law
   server_step w (Next bytes) law timely h = absurd law
 
@@ -80,7 +80,7 @@ module _ (late : ℕ) (layouts : Role → Layout) (margins : Margins late layout
       comes late (layouts Client) (layouts Server) (half Client w) (half Server w) now datagram took (MeantAgo layouts Client w) (MeantAgo layouts Server w) (SentAgo Client w) (SentAgo Server w) rear front
       (came late (layouts Client) (layouts Server) took datagram (MeantAgo layouts Server w) (SentAgo Server w) front h.means_there timely.0) h
   client_turn w (Polled now None) law timely h =
-      same_ends (layouts Client) (layouts Server) (half Client w) (half Client w ▷ Polled now None) (half Server w) (MeantAgo layouts Client w) (MeantAgo layouts Server w) (SentAgo Client w) (SentAgo Server w) refl refl refl refl h
+      same_ends (layouts Client) (layouts Server) (half Client w) (half Client w ▷ Polled now None) (half Server w) (MeantAgo layouts Client w) (MeantAgo layouts Server w) (SentAgo Client w) (SentAgo Server w) refl refl refl refl refl h
   client_turn w (Polled now (Some out)) law timely h =
       polls late (layouts Client) (layouts Server) (half Client w) (half Server w) now out (MeantAgo layouts Client w) (MeantAgo layouts Server w)
       (MeantAgo layouts Client (w ▷ At Client (Polled now (Some out)))) (MeantAgo layouts Server (w ▷ At Client (Polled now (Some out))))
@@ -100,7 +100,7 @@ module _ (late : ℕ) (layouts : Role → Layout) (margins : Margins late layout
       }) h
   client_turn w (Pulled room bytes) law timely h = pulls (layouts Client) (layouts Server) (half Client w) (half Server w) (MeantAgo layouts Client w) (MeantAgo layouts Server w) (SentAgo Client w) (SentAgo Server w) room bytes h
   client_turn w (Owed count) law timely h =
-      same_ends (layouts Client) (layouts Server) (half Client w) (half Client w ▷ Owed count) (half Server w) (MeantAgo layouts Client w) (MeantAgo layouts Server w) (SentAgo Client w) (SentAgo Server w) refl refl refl refl h
+      same_ends (layouts Client) (layouts Server) (half Client w) (half Client w ▷ Owed count) (half Server w) (MeantAgo layouts Client w) (MeantAgo layouts Server w) (SentAgo Client w) (SentAgo Server w) refl refl refl refl refl h
   client_turn w (Posted bytes) law timely h = absurd law
   client_turn w (Next bytes) law timely h = absurd law
 
