@@ -1,8 +1,10 @@
 -- The proof of the law of two joined links.
 pub mod Numbers
 pub mod Parts
+pub mod Noted
 pub mod Invariant
 pub mod Steps
+pub mod Around
 pub mod Facing
 pub mod Sends
 pub mod Hears

@@ -1,23 +1,22 @@
--- What follows from the law of a link for one of its ends, where parts are told.
+-- What follows from the law of a link for one of its ends.
 use Rattle.std.specs.Prelude.{◌≡◌, ◌⊎◌, ℕ, ◌+◌, ◌*◌, ◌<◌, ◌≤◌, ◌==◌, true, List, [], ◌∷◌, ◌++◌, length, slice_get, if◌then◌else◌, Option, Some, None}
 use Rattle.mt_base.specs.Trace.{Trace, Start, ◌▷◌}
 use Rattle.mt_base.specs.Writing.{joined}
-use Rattle.mt_windows.specs.Arrived.{passed, has_part}
+use Rattle.mt_windows.specs.Arrived.{passed}
 use Rattle.mt_windows.specs.Sending.{Act, Limits, cuts, is_open, lowest_or_next, next_piece, piece, pieces, transmissions}
 use Rattle.carrier.specs.Entries.{Entry, Polled, given, pulled}
 use Rattle.carrier.specs.Layout.{Layout, Datagram, Carried, Shows, tells}
-use Rattle.carrier.specs.LayoutLaw.{IsLayout, shown_of}
-use Rattle.carrier.specs.Receiving.{accepted}
+use Rattle.carrier.specs.LayoutLaw.{IsLayout, is_received, shown_of}
+use Rattle.carrier.specs.Receiving.{accepted, received}
 use Rattle.carrier.specs.Sending.{acts}
 use Rattle.carrier.specs.Due.{meant}
 
 -- ---- the premise
 
--- What is asked of the layout: it reads back what it spells, and tells parts; a part has room for a
--- byte; and a window is at most half of the numbers that have different low parts.
-pub record TellsParts (layout : Layout) : Type 0 where
+-- What is asked of the layout: it reads back what it spells; a part has room for a byte; and a window
+-- is at most half of the numbers that have different low parts.
+pub record HasRoom (layout : Layout) : Type 0 where
   pub lawful : IsLayout layout
-  pub tells_parts : layout.tells_parts ≡ true
   pub some_part : 1 ≤ layout.bounds.windows.part
   pub half_window : 2 * layout.bounds.windows.window ≤ layout.modulus
 
@@ -50,12 +49,12 @@ ShowsMeant layout t =
     → (layout.read (layout.spell d) ≡ Shows (shown_of layout d))
     × (length (layout.spell d) ≤ layout.bounds.datagram)
 
--- what a poll's datagram tells as received was accepted
-abbrev pub TellsAccepted : Layout → Trace Entry → Type 0
-TellsAccepted layout t =
+-- what a poll's datagram tells as received was: a part was accepted, or a transmission seen
+abbrev pub TellsReceived : Layout → Trace Entry → Type 0
+TellsReceived layout t =
     (now : ℕ) (d : Datagram) → meant layout t now ≡ Some d
     → (n : ℕ) → layout.peer ≤ n → tells d.telling n ≡ true
-    → has_part layout.peer (accepted layout t) n ≡ true
+    → is_received layout (received layout t) n ≡ true
 
 -- ---- what was sent
 

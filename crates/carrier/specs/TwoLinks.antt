@@ -1,12 +1,13 @@
--- What holds of two joined ends whose layouts tell parts.
-use Rattle.std.specs.Prelude.{◌≡◌, ℕ, ◌+◌, ◌*◌, ◌<◌, ◌≤◌, true, List, ◌++◌, length, Option, Some, None, is_some}
+-- What holds of two joined ends.
+use Rattle.std.specs.Prelude.{◌≡◌, ℕ, ◌+◌, ◌*◌, ◌<◌, ◌≤◌, Bool, true, false, List, ◌++◌, length, if◌then◌else◌, Option, Some, None, is_some}
 use Rattle.mt_base.specs.declared.kinds.Role.{Role}
 use Rattle.mt_base.specs.Ends.{other}
 use Rattle.mt_base.specs.Trace.{Trace, Start, ◌▷◌}
 use Rattle.mt_windows.specs.Arrived.{Parts, part_at, passed, drained}
-use Rattle.mt_windows.specs.Sending.{Act, Limits, cuts, lowest_or_next, piece, settled}
+use Rattle.mt_windows.specs.Noted.{is_noted}
+use Rattle.mt_windows.specs.Sending.{Act, Limits, cuts, lowest_or_next, part_of, piece, settled, told, transmissions}
 use Rattle.carrier.specs.Entries.{Entry, In, given, pulled}
-use Rattle.carrier.specs.Layout.{Layout, Shows, Shown, Load, Empty, Telling, Datagram, Carried, named_in, with_named, read_near}
+use Rattle.carrier.specs.Layout.{Layout, Bounds, Shows, Shown, Load, Empty, Telling, Datagram, Carried, named_in, with_named, read_near}
 use Rattle.carrier.specs.Receiving.{reading, received, accepted, arrival, floor_read, Arrival}
 use Rattle.carrier.specs.Sending.{acts, told_reference}
 use Rattle.carrier.specs.Law.{Faithful}
@@ -15,13 +16,27 @@ use Rattle.carrier.specs.Joined.{Step, At, half, SentAgo, MeantAgo, Timely}
 
 -- ---- the premises
 
--- Two layouts that belong together: both tell parts and read alike; each end's own numbers are the
--- peer's at the other; and the windows, and the datagrams that may come late, leave room between two
--- numbers that have the same low part.
+-- how many parts, or transmissions, may be past the one that was told last
+abbrev pub ahead : Bool → Limits → ℕ
+ahead tells_parts limits = if tells_parts then limits.window else limits.span
+
+-- What is asked of the bounds, of the datagrams that may come late, and of half of the modulus, `room`.
+-- A part lies below the least part that isn't drained by at most the window and the lateness, and
+-- above it by less than two windows. A number told lies below the last one by at most what may be
+-- past it, what a telling speaks of, and the lateness. Where transmissions are told, these and the
+-- floors lie around the last one that was seen, no farther away.
+pub record Enough (late room : ℕ) (tells_parts : Bool) (bounds : Bounds) : Type 0 where
+  pub some_window : 0 < bounds.windows.window
+  pub two_windows : 2 * bounds.windows.window ≤ room
+  pub window_and_late : bounds.windows.window + late ≤ room
+  pub told_and_late : ahead tells_parts bounds.windows + bounds.tell + late ≤ room
+
+-- Two layouts that belong together: both tell parts, or both transmissions, and they read alike; each
+-- end's own numbers are the peer's at the other; and the bounds leave room between two numbers that
+-- have the same low part.
 pub record Margins (late : ℕ) (layouts : Role → Layout) : Type 0 where
   pub layout : (s : Role) → IsLayout (layouts s)
-  pub tells_parts : (s : Role) → (layouts s).tells_parts ≡ true
-  pub tells_last : (s : Role) → (layouts s).bounds.tell ≡ 0
+  pub kinds : (s : Role) → (layouts s).tells_parts ≡ (layouts (other s)).tells_parts
   pub reads : (s : Role) (datagram : List ℕ)
       → (layouts s).read datagram ≡ (layouts (other s)).read datagram
   pub faces : (s : Role) → (layouts s).own ≡ (layouts (other s)).peer
@@ -29,9 +44,7 @@ pub record Margins (late : ℕ) (layouts : Role → Layout) : Type 0 where
   -- half of the modulus of both
   pub room : ℕ
   pub modulus : (s : Role) → (layouts s).modulus ≡ 2 * room
-  pub some_window : (s : Role) → 0 < (layouts s).bounds.windows.window
-  pub two_windows : (s : Role) → 2 * (layouts s).bounds.windows.window ≤ room
-  pub window_and_late : (s : Role) → (layouts s).bounds.windows.window + late ≤ room
+  pub enough : (s : Role) → Enough late room (layouts s).tells_parts (layouts s).bounds
   pub numbers : (s : Role) → (layouts s).own ≤ (layouts s).bounds.windows.numbers
 
 -- two ends of a link, joined by a network
@@ -42,12 +55,13 @@ pub record Net (late : ℕ) (layouts : Role → Layout) (w : Trace Step) : Type 
 
 -- ---- a datagram is read as it was meant
 
--- what is carried arrives under the number that was meant
+-- what is carried arrives under the number that was meant, and, where transmissions are told, under
+-- the transmission that was meant
 abbrev pub LoadRead : Layout → Trace Entry → Load → Option Carried → Type 0
 LoadRead layout t load None = load ≡ Empty
 LoadRead layout t load (Some c) =
     (a : Arrival) × (arrival layout (received layout t) (length (pulled t)) load ≡ Some a) × (a.part ≡ c.part)
-    × (a.bytes ≡ c.bytes)
+    × (a.bytes ≡ c.bytes) × (layout.tells_parts ≡ false → a.transmission ≡ c.transmission)
 
 -- what is told, with the number that is read in place of the one that is named, is what was meant
 abbrev pub TellingRead : Layout → Trace Entry → Option Telling → Telling → Type 0
@@ -103,6 +117,30 @@ abbrev pub SettledArrive : (Role → Layout) → Trace Step → Role → Type 0
 SettledArrive layouts w s =
     (p : ℕ) → settled (windows_of layouts s) (acts_of layouts w s) p ≡ true
     → part_at (arrived_from layouts w s) p ≡ Some (piece (windows_of layouts s) (acts_of layouts w s) p)
+
+-- A transmission with this number was made, and the part that it carried was accepted.
+pub record WasMade (own : ℕ) (s : Trace Act) (parts : Parts) (n : ℕ) : Type 0 where
+  pub place : ℕ
+  pub number : n ≡ own + place
+  pub made : place < transmissions s
+  pub came : is_some (part_at parts (part_of s place)) ≡ true
+
+-- what was seen of it at the other end
+abbrev pub seen_from : (Role → Layout) → Trace Step → Role → List ℕ
+seen_from layouts w s = (received (layouts (other s)) (half (other s) w)).seen
+
+-- where transmissions are told, each one that was seen at the other end was made by this one, and its
+-- part was accepted
+abbrev pub SeenWereMade : (Role → Layout) → Trace Step → Role → Type 0
+SeenWereMade layouts w s =
+    (layouts s).tells_parts ≡ false → (n : ℕ) → is_noted n (seen_from layouts w s) ≡ true
+    → WasMade (layouts s).own (acts_of layouts w s) (arrived_from layouts w s) n
+
+-- and each one that is known as told was seen
+abbrev pub KnownWereSeen : (Role → Layout) → Trace Step → Role → Type 0
+KnownWereSeen layouts w s =
+    (layouts s).tells_parts ≡ false → (j : ℕ) → told (windows_of layouts s) (acts_of layouts w s) j ≡ true
+    → is_noted ((layouts s).own + j) (seen_from layouts w s) ≡ true
 
 -- what one end passed is the beginning of what the other was given
 abbrev pub PassedWasGiven : (Role → Layout) → Trace Step → Role → Type 0

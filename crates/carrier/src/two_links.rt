@@ -1,23 +1,25 @@
 //! The law of two joined links.
 
-ghost use Rattle.std.specs.Prelude.{◌≡◌, ℕ, [], ◌∷◌};
+ghost use Rattle.std.specs.Prelude.{◌≡◌, ◌^◌, ℕ, false, [], ◌∷◌};
 ghost use Rattle.mt_base.specs.declared.kinds.Role.{Role};
 ghost use Rattle.mt_base.specs.declared.kinds.Role.TheVariants.{Client};
 ghost use Rattle.mt_base.specs.Trace.{Trace};
 ghost use Rattle.mt_windows.specs.Arrived.{passed};
-ghost use Rattle.carrier.specs.Faithful.{TellsParts};
+ghost use Rattle.carrier.specs.Faithful.{HasRoom};
 ghost use Rattle.carrier.specs.Joined.{Step, half};
-ghost use Rattle.carrier.specs.Layout.{Layout};
+ghost use Rattle.carrier.specs.Layout.{Bounds, Layout};
 ghost use Rattle.carrier.specs.Receiving.{accepted};
 ghost use Rattle.carrier.specs.SmallWorld.{small_layouts, small_world};
-ghost use Rattle.carrier.specs.TwoLinks.{AllRead, CutsNear, LowestArrived, Net, PassedWasGiven, PulledWasGiven, SettledArrive};
+ghost use Rattle.carrier.specs.TwoLinks.{AllRead, CutsNear, Enough, KnownWereSeen, LowestArrived, Net, PassedWasGiven, PulledWasGiven, SeenWereMade, SettledArrive};
 
-/// Two ends whose layouts tell parts, joined by a network that loses, copies and reorders datagrams
+/// Two ends of a link, whether parts are told or transmissions, joined by a network that loses, copies and reorders datagrams
 /// and makes none, and that brings none too late: each datagram is read as it was meant, whatever
 /// numbers share its low parts; a part that is settled at one end was accepted at the other, with
 /// the same bytes; and the bytes that one end passed, or pulled, are the first of those that the
 /// other was given. No part below the lowest unsettled one is missing at the other end, and the
-/// parts that were cut never run more than two windows ahead of those that were drained.
+/// parts that were cut never run more than two windows ahead of those that were drained. Where
+/// transmissions are told, each one that was seen at an end was made by the other, and its part was
+/// accepted; and each one that is known as told was seen.
 pub fn joined_links()
     ensures read { (late : ℕ) (layouts : Role → Layout) (w : Trace Step) → Net late layouts w → AllRead late layouts w }
     ensures arrive { (late : ℕ) (layouts : Role → Layout) (w : Trace Step) → Net late layouts w → (s : Role) → SettledArrive layouts w s }
@@ -25,6 +27,15 @@ pub fn joined_links()
     ensures pulled { (late : ℕ) (layouts : Role → Layout) (w : Trace Step) → Net late layouts w → (s : Role) → PulledWasGiven layouts w s }
     ensures apart { (late : ℕ) (layouts : Role → Layout) (w : Trace Step) → Net late layouts w → (s : Role) → LowestArrived layouts w s }
     ensures ahead { (late : ℕ) (layouts : Role → Layout) (w : Trace Step) → Net late layouts w → (s : Role) → CutsNear layouts w s }
+    ensures seen { (late : ℕ) (layouts : Role → Layout) (w : Trace Step) → Net late layouts w → (s : Role) → SeenWereMade layouts w s }
+    ensures known { (late : ℕ) (layouts : Role → Layout) (w : Trace Step) → Net late layouts w → (s : Role) → KnownWereSeen layouts w s }
+{}
+
+/// With 16 bits the bounds leave room between numbers that have the same low part: with a window of 64
+/// parts where fewer than 1,024 datagrams overtake one, and with one of 512 where fewer than 8,192 do.
+pub fn sixteen_bits_are_enough()
+    ensures small { (bounds : Bounds) → bounds.windows.window ≡ 64 → bounds.windows.span ≡ 4096 → bounds.tell ≡ 512 → Enough 1024 (2 ^ 15) false bounds }
+    ensures wide { (bounds : Bounds) → bounds.windows.window ≡ 512 → bounds.windows.span ≡ 4096 → bounds.tell ≡ 512 → Enough 8192 (2 ^ 15) false bounds }
 {}
 
 /// A small world meets what [`joined_links`] asks, and its layouts what
@@ -32,6 +43,6 @@ pub fn joined_links()
 /// and twice, and one is lost; and all three parts are passed.
 pub fn a_small_world()
     ensures met { Net 2 small_layouts small_world }
-    ensures asks { (s : Role) → TellsParts (small_layouts s) }
+    ensures asks { (s : Role) → HasRoom (small_layouts s) }
     ensures passes { passed (accepted (small_layouts Client) (half Client small_world)) ≡ 10 ∷ 20 ∷ 30 ∷ [] }
 {}

@@ -8,17 +8,16 @@ use Rattle.mt_windows.specs.declared.limits.TheConstants.{WINDOW}
 use Rattle.carrier.specs.LayoutLaw.{IsLayout}
 use Rattle.carrier.specs.Law.{Faithful}
 use Rattle.carrier.specs.Joined.{Step, half}
-use Rattle.carrier.specs.Faithful.{TellsParts}
-use Rattle.carrier.specs.TwoLinks.{Margins, Net}
+use Rattle.carrier.specs.Faithful.{HasRoom}
+use Rattle.carrier.specs.TwoLinks.{Enough, Margins, Net}
 use Rattle.udp1_core.specs.MachineView.{Machine, link_layout}
 use Rattle.udp1_core.specs.FirstLink.{FirstLink, JoinedMachines, link_layouts}
 use Rattle.udp1_core.proofs.Whole.{is_layout}
 
--- the layout of one end tells parts, and leaves room for them
-pub tells_parts : (own peer version : ℕ) → TellsParts (link_layout own peer version)
-tells_parts own peer version = record {
+-- the layout of one end leaves room for its parts
+pub has_room : (own peer version : ℕ) → HasRoom (link_layout own peer version)
+has_room own peer version = record {
   lawful = is_layout _ _ _ _ (omega arith) (omega arith);
-  tells_parts = refl;
   some_part = omega arith;
   half_window = omega arith;
 }
@@ -27,16 +26,13 @@ pub margins : (late server client version : ℕ) → server < 2 ^ 32 → client 
     → Margins late (link_layouts server client version)
 margins late server client version server_number client_number in_time = record {
   layout = layout;
-  tells_parts = tells;
-  tells_last = tells_last;
+  kinds = kinds;
   reads = reads;
   faces = faces;
   bounds = bounds;
   room = 2 ^ 31;
   modulus = modulus;
-  some_window = some_window;
-  two_windows = two_windows;
-  window_and_late = window_and_late;
+  enough = enough;
   numbers = numbers;
 }
   where
@@ -44,13 +40,9 @@ margins late server client version server_number client_number in_time = record 
     layout Server = is_layout _ _ _ _ (omega arith) (omega arith)
     layout Client = is_layout _ _ _ _ (omega arith) (omega arith)
 
-    tells_last : (s : Role) → (link_layouts server client version s).bounds.tell ≡ 0
-    tells_last Server = refl
-    tells_last Client = refl
-
-    tells : (s : Role) → (link_layouts server client version s).tells_parts ≡ true
-    tells Server = refl
-    tells Client = refl
+    kinds : (s : Role) → (link_layouts server client version s).tells_parts ≡ (link_layouts server client version (other s)).tells_parts
+    kinds Server = refl
+    kinds Client = refl
 
     reads : (s : Role) (datagram : List ℕ) → (link_layouts server client version s).read datagram ≡ (link_layouts server client version (other s)).read datagram
     reads Server datagram = refl
@@ -68,17 +60,9 @@ margins late server client version server_number client_number in_time = record 
     modulus Server = refl
     modulus Client = refl
 
-    some_window : (s : Role) → 0 < (link_layouts server client version s).bounds.windows.window
-    some_window Server = omega arith
-    some_window Client = omega arith
-
-    two_windows : (s : Role) → 2 * (link_layouts server client version s).bounds.windows.window ≤ 2 ^ 31
-    two_windows Server = omega arith
-    two_windows Client = omega arith
-
-    window_and_late : (s : Role) → (link_layouts server client version s).bounds.windows.window + late ≤ 2 ^ 31
-    window_and_late Server = in_time
-    window_and_late Client = in_time
+    enough : (s : Role) → Enough late (2 ^ 31) (link_layouts server client version s).tells_parts (link_layouts server client version s).bounds
+    enough Server = record { some_window = omega arith; two_windows = omega arith; window_and_late = in_time; told_and_late = omega (arith, in_time) }
+    enough Client = record { some_window = omega arith; two_windows = omega arith; window_and_late = in_time; told_and_late = omega (arith, in_time) }
 
     numbers : (s : Role) → (link_layouts server client version s).own ≤ (link_layouts server client version s).bounds.windows.numbers
     numbers Server = omega (arith, server_number)

@@ -7,7 +7,7 @@ ghost use Rattle.mt_windows.specs.SendingView.{limits};
 ghost use Rattle.mt_windows.specs.declared.limits.TheConstants.{QUEUE, SPAN, WINDOW};
 ghost use Rattle.carrier.specs.Due.{meant};
 ghost use Rattle.carrier.specs.Entries.{Entry};
-ghost use Rattle.carrier.specs.Faithful.{InOrder, PartsWereGiven, PulledWasPassed, SendsNext, ShowsMeant, TellsAccepted, TellsParts, carried};
+ghost use Rattle.carrier.specs.Faithful.{HasRoom, InOrder, PartsWereGiven, PulledWasPassed, SendsNext, ShowsMeant, TellsReceived, carried};
 ghost use Rattle.carrier.specs.Law.{Faithful};
 ghost use Rattle.carrier.specs.Sending.{acts, is_closed, timer};
 ghost use Rattle.udp1_core.specs.MachineView.{link_layout};
@@ -23,7 +23,7 @@ use carrier::{faithful_links, links_close};
 /// row is the last, after which nothing is sent any more. A machine that stands for a trace is such
 /// a link ([`crate::Udp1Core`]).
 pub fn first_links_keep()
-    ensures asks { (own peer version : ℕ) → TellsParts (link_layout own peer version) }
+    ensures asks { (own peer version : ℕ) → HasRoom (link_layout own peer version) }
     ensures shows { (own peer version : ℕ) (t : Trace Entry)
         → let layout = link_layout own peer version in
         Faithful layout t → ShowsMeant layout t }
@@ -38,7 +38,7 @@ pub fn first_links_keep()
         Faithful layout t → PartsWereGiven layout t }
     ensures told { (own peer version : ℕ) (t : Trace Entry)
         → let layout = link_layout own peer version in
-        Faithful layout t → TellsAccepted layout t }
+        Faithful layout t → TellsReceived layout t }
     ensures pulled { (own peer version : ℕ) (t : Trace Entry)
         → let layout = link_layout own peer version in
         Faithful layout t → PulledWasPassed layout t }

@@ -59,9 +59,10 @@ layouts_of settings =
 abbrev pub AgreesIn : (Role → OpenSettings) → Trace Step → Role → Type 0
 AgreesIn settings w s = IfSome (agreed (settings s) (half s w)) (AgreesWith settings s)
 
--- each datagram that came in time at a machine was read as it was meant
+-- each datagram that came at a machine came in time, and was read as it was meant
 abbrev pub MachinesRead : ℕ → (Role → OpenSettings) → Trace Step → Type 0
-MachinesRead late settings w = AllRead late (layouts_of settings) (machines settings w)
+MachinesRead late settings w =
+    Timely late (machines settings w) × AllRead late (layouts_of settings) (machines settings w)
 
 -- each part that is settled at this end was accepted at the other, with the same bytes
 abbrev pub PartsArrive : (Role → OpenSettings) → Trace Step → Role → Type 0

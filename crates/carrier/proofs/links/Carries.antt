@@ -5,8 +5,7 @@ use Rattle.std.proofs.lemmas.Bool.Decides.{nat_tests}
 use Rattle.std.proofs.lemmas.Option.{slice_get_within}
 use Rattle.mt_base.specs.Trace.{Trace, Start, ◌▷◌}
 use Rattle.mt_base.proofs.Lists.{slice_get-append-left, slice_get-append-right}
-use Rattle.mt_windows.specs.Arrived.{passed, has_part}
-use Rattle.mt_windows.specs.Noted.{is_noted}
+use Rattle.mt_windows.specs.Arrived.{passed}
 use Rattle.mt_windows.specs.Sending.Act.{Gave as GaveBytes, Cut, Resent}
 use Rattle.mt_windows.specs.Sending.{Act, cuts, given as given_to, next_piece, piece, transmissions, waiting}
 use Rattle.mt_windows.proofs.Pieces.{pieces_and_rest}
@@ -17,7 +16,7 @@ use Rattle.carrier.specs.Receiving.{received, accepted, floor, effect, peer_wind
 use Rattle.carrier.specs.Sending.{acts, hears, sends}
 use Rattle.carrier.specs.Law.{Faithful}
 use Rattle.carrier.specs.Due.{meant}
-use Rattle.carrier.specs.Faithful.{TellsParts, IsNext, one_load, loads_of, carried, WasCarried, InOrder, PartsWereGiven, PulledWasPassed}
+use Rattle.carrier.specs.Faithful.{HasRoom, IsNext, one_load, loads_of, carried, WasCarried, InOrder, PartsWereGiven, PulledWasPassed}
 use Rattle.carrier.proofs.links.Numbers.{open_cut}
 use Rattle.carrier.proofs.links.Sends.{Moved, Repeated, Extended, Told, next_fits, piece_before, piece_next}
 use Rattle.carrier.proofs.links.Ends.{was_meant}
@@ -62,7 +61,7 @@ module _ (l : Layout) (a b : Trace Act) (more : cuts a ≤ cuts b) (same : (p : 
 
 -- ---- one end
 
-module _ (l : Layout) (asks : TellsParts l) where
+module _ (l : Layout) (asks : HasRoom l) where
   resent_carried : (a : Trace Act) (p : ℕ) → OneEnd l.bounds.windows l.own a → p < cuts a
       → WasCarried l (a ▷ Resent p) (transmissions a) (record { part = l.own + p; transmission = l.own + transmissions a; bytes = piece l.bounds.windows a p })
   resent_carried a p h cut = record {
@@ -98,7 +97,7 @@ module _ (l : Layout) (asks : TellsParts l) where
       let c : Carried = record { part = l.own + cuts a; transmission = l.own + transmissions a; bytes = next_piece l.bounds.windows a } in
       subst (λ o. InOrder l b (xs ++ one_load o)) (sym load) (subst (λ x. InOrder l x (xs ++ c ∷ [])) (sym e)
       (order_push l a (a ▷ Cut) (omega arith) (λ q less. piece_before l.bounds.windows a q less) xs c refl
-      (cut_carried a h (cut_more l.bounds.windows l.own a (peer_window l t) may).0) order))
+      (cut_carried a h (cut_more l.bounds.windows l.own a (peer_window l t) may)) order))
   order_moves t d b xs h (Told load e) order =
       subst (λ o. InOrder l b (xs ++ one_load o)) (sym load) (subst (λ ys. InOrder l b ys) (sym (append-nil xs))
       (subst (λ x. InOrder l x xs) (sym e) order))
@@ -120,8 +119,8 @@ module _ (l : Layout) (asks : TellsParts l) where
   in_order Start law = record { count = refl; each = λ j c is. absurd (let within = slice_get_within [] j c is in omega (arith, within)) }
   in_order (t ▷ Gave bytes) law = order_on l (acts l t) (acts l t ▷ GaveBytes bytes) (omega arith) (λ p less. refl) (carried l t) refl (in_order t law.2)
   in_order (t ▷ In now datagram took) law =
-      let g = informs_hears l (acts l t) (effect l took datagram) asks.tells_parts in
-      order_on l (acts l t) (hears l (acts l t) (effect l took datagram)) (omega (arith, g.cuts_are)) (λ p less. g.pieces_are p) (carried l t) g.made_are (in_order t law.1)
+      let g = informs_hears l (acts l t) (effect l took datagram) in
+      order_on l (acts l t) (hears l (acts l t) (effect l took datagram)) (omega (arith, g.keeps.cuts_are)) (λ p less. g.keeps.pieces_are p) (carried l t) g.keeps.made_are (in_order t law.1)
   in_order (t ▷ Polled now None) law = order_silent t (meant l t now) (carried l t) law.0 (in_order t law.1)
   in_order (t ▷ Polled now (Some out)) law = order_polls t now out law (in_order t law.1)
   in_order (t ▷ Pulled room bytes) law = in_order t law.1
@@ -161,7 +160,7 @@ module _ (l : Layout) (asks : TellsParts l) where
         part = refl;
         which = inr refl;
         bytes = sym (ap (λ x. cond x (next_piece l.bounds.windows a) (piece l.bounds.windows a (cuts a))) same);
-        some_bytes = next_some l.bounds.windows a asks.some_part (cut_more l.bounds.windows l.own a (peer_window l t) may).0;
+        some_bytes = next_some l.bounds.windows a asks.some_part (cut_more l.bounds.windows l.own a (peer_window l t) may);
         few_bytes = (next_fits l.bounds.windows a h.even.bytes).0;
       })
     where
@@ -177,19 +176,17 @@ module _ (l : Layout) (asks : TellsParts l) where
   pub shows_meant : (t : Trace Entry) → Faithful l t → (now : ℕ) (d : Datagram) → meant l t now ≡ Some d → (l.read (l.spell d) ≡ Shows (shown_of l d)) × (length (l.spell d) ≤ l.bounds.datagram)
   shows_meant t law now d is = let s = said l asks t now d (one_end l asks t law) is in (s.shows, s.fits)
 
-  pub tells_accepted : (t : Trace Entry) → Faithful l t → (now : ℕ) (d : Datagram) → meant l t now ≡ Some d → (n : ℕ) → l.peer ≤ n → tells d.telling n ≡ true → has_part l.peer (accepted l t) n ≡ true
-  tells_accepted t law now d is n le told =
+  pub tells_received : (t : Trace Entry) → Faithful l t → (now : ℕ) (d : Datagram) → meant l t now ≡ Some d → (n : ℕ) → l.peer ≤ n → tells d.telling n ≡ true → is_received l (received l t) n ≡ true
+  tells_received t law now d is n le told =
       let s = said l asks t now d (one_end l asks t law) is in
-      let r = received l t in
-      let was : is_received l r n ≡ true = asks.lawful.received r (floor l t) n le (sym (ap (λ x. tells x n) s.telling) ∙ told) in
-      sym (ap (λ x. cond x (has_part l.peer r.parts n) (is_noted n r.seen)) asks.tells_parts) ∙ was
+      asks.lawful.received (received l t) (floor l t) n le (sym (ap (λ x. tells x n) s.telling) ∙ told)
 
   -- ---- what was given, and what was pulled
 
   pub all_given : (t : Trace Entry) → Faithful l t → given_to (acts l t) ≡ given t
   all_given Start law = refl
   all_given (t ▷ Gave bytes) law = ap (λ xs. xs ++ bytes) (all_given t law.2)
-  all_given (t ▷ In now datagram took) law = (informs_hears l (acts l t) (effect l took datagram) asks.tells_parts).given_is ∙ all_given t law.1
+  all_given (t ▷ In now datagram took) law = (informs_hears l (acts l t) (effect l took datagram)).given_is ∙ all_given t law.1
   all_given (t ▷ Polled now None) law = all_given t law.1
   all_given (t ▷ Polled now (Some out)) law =
       let was = was_meant l (meant l t now) out law.0 in

@@ -1,23 +1,21 @@
 -- What a datagram that comes does to both directions.
-use Rattle.std.proofs.Common.{◌≡◌, ℕ, ◌+◌, ◌-◌, ◌<◌, ◌≤◌, ◌⊎◌, inl, inr, Bool, true, false, ltb, leb, cond, List, length, Option, Some, None, is_some, refl, sym, ap, ◌∙◌, subst, arith}
+use Rattle.std.proofs.Common.{◌≡◌, ℕ, ◌+◌, ◌<◌, ◌≤◌, ◌⊎◌, inl, inr, Bool, true, false, ltb, leb, cond, List, length, Option, Some, None, refl, sym, ap, ◌∙◌, subst, arith}
 use Rattle.std.proofs.lemmas.Bool.{cases_lt}
 use Rattle.std.proofs.lemmas.Bool.Decides.{nat_tests}
 use Rattle.mt_base.specs.Trace.{Trace, ◌▷◌}
-use Rattle.mt_windows.specs.Arrived.{part_at}
-use Rattle.mt_windows.specs.Sending.{given as given_to, cuts, transmissions, lowest_or_next}
 use Rattle.carrier.specs.declared.state.Took.{Took}
 use Rattle.carrier.specs.declared.state.Reason.TheVariants as reason
 use Rattle.carrier.specs.Entries.{Entry, In, pulled}
 use Rattle.carrier.specs.Layout.{Layout, Bounds, Carried, Datagram, Received, Refuses, Shows, Shown, Telling, named_in, with_named, read_near, tells}
-use Rattle.carrier.specs.Receiving.{reading, shown_in, effect, has_effect, received, accepted, receives, parts_with, arrival, Arrival, floor, floor_of, floor_read, floor_shown, last_part, last_seen, last_told}
-use Rattle.carrier.specs.Sending.{acts, hears, hears_named, hears_telling, tell_all, tell_parts, tell_transmissions, told_reference}
+use Rattle.carrier.specs.Receiving.{reading, shown_in, effect, has_effect, received, receives, parts_with, seen_with, taken_of, Arrival, floor, floor_of, floor_read, floor_shown, last_told}
+use Rattle.carrier.specs.Sending.{acts, hears, hears_named, hears_telling, tell_all, told_reference}
 use Rattle.carrier.specs.LayoutLaw.{IsLayout, shown_of, load_shown, telling_shown, low_part}
 use Rattle.carrier.proofs.links.Invariant.{Even, Follows, FliesLoad, Told, Hears, Accepts}
-use Rattle.carrier.proofs.links.Steps.{way_hears, even_hears, takes, way_takes}
+use Rattle.carrier.proofs.links.Informed.{informs_hears, even_informs}
+use Rattle.carrier.proofs.links.Steps.{way_hears, accepts_nothing, takes, way_takes}
 use Rattle.carrier.proofs.links.Facing.{Facing, same_window}
-use Rattle.carrier.proofs.links.Parts.{last_is}
-use Rattle.carrier.proofs.links.Hears.{hears_nothing, hears_parts, tell_given, named_with, with_again, with_own}
-use Rattle.carrier.proofs.links.Reading.{named_is, arrives}
+use Rattle.carrier.proofs.links.Hears.{hears_nothing, hears_all, named_with, with_again, with_own}
+use Rattle.carrier.proofs.links.Reading.{told_behind, named_is, arrives}
 use Rattle.carrier.proofs.links.Ends.{Spelled, Both}
 
 -- what comes has no effect, or shows what this datagram means, which is under way
@@ -26,11 +24,11 @@ pub data Comes (late : ℕ) (m : Layout) (R : ℕ → Datagram → Type 0) (o : 
   Heard : (k : ℕ) (f : Datagram) → k < late → R k f → o ≡ Some (shown_of m f) → Comes late m R o
 
 -- a telling that is heard
-pub hears_telling_is : (late : ℕ) (l m : Layout) (t u : Trace Entry) (k : ℕ) (telling : Telling) (tells_it : Bool) → Facing late l m → Even l.bounds.windows l.own (acts l t) → Follows l.bounds.windows (acts l t) (accepted m u) (length (pulled u))
-    → k < late → Told l.bounds.windows l.own k (acts l t) (accepted m u) telling
-    → Hears l.bounds.windows (acts l t) (hears_telling l (acts l t) (telling_shown m tells_it telling)) (accepted m u)
-    × (given_to (hears_telling l (acts l t) (telling_shown m tells_it telling)) ≡ given_to (acts l t))
-hears_telling_is late l m t u k telling false f even now soon h = (hears_nothing l.bounds.windows (acts l t) (accepted m u), refl)
+pub hears_telling_is : (late : ℕ) (l m : Layout) (t u : Trace Entry) (k : ℕ) (telling : Telling) (tells_it : Bool) → Facing late l m → Even l.bounds.windows l.own (acts l t)
+    → Follows l.tells_parts l.bounds.windows l.own (acts l t) (received m u) (length (pulled u))
+    → k < late → Told l.tells_parts l.bounds.windows l.bounds.tell l.own k (acts l t) (received m u) telling
+    → Hears l.tells_parts l.bounds.windows l.own (acts l t) (hears_telling l (acts l t) (telling_shown m tells_it telling)) (received m u)
+hears_telling_is late l m t u k telling false f even now soon h = hears_nothing l.tells_parts l.bounds.windows l.own (acts l t) (received m u)
 hears_telling_is late l m t u k telling true f even now soon h =
     let a = acts l t in
     let shown = with_named (low_part m (named_in telling)) telling in
@@ -38,53 +36,56 @@ hears_telling_is late l m t u k telling true f even now soon h =
     ap (read_near l (told_reference l a)) (named_with (low_part m (named_in telling)) telling)
     ∙ named_is late l m f a (received m u) (length (pulled u)) k even now soon telling h in
     let meant_is : with_named (named_in telling) shown ≡ telling = with_again (named_in telling) (low_part m (named_in telling)) telling ∙ with_own telling in
-    let all : tell_all l a (tells telling) ≡ tell_parts (λ p. tells telling (l.own + p)) (lowest_or_next l.bounds.windows a) (cuts a - lowest_or_next l.bounds.windows a) a =
-    ap (λ b. cond b (tell_parts (λ p. tells telling (l.own + p)) (lowest_or_next l.bounds.windows a) (cuts a - lowest_or_next l.bounds.windows a) a)
-    (tell_transmissions (λ j. tells telling (l.own + j)) (transmissions a - l.bounds.windows.span) (transmissions a - (transmissions a - l.bounds.windows.span)) a)) f.here_tells in
-    let same = ap (hears_named l a shown) number ∙ ap (λ x. tell_all l a (tells x)) meant_is ∙ all in (
-      subst (λ b. Hears l.bounds.windows a b (accepted m u)) (sym same)
-          (hears_parts l.bounds.windows (λ p. tells telling (l.own + p)) (lowest_or_next l.bounds.windows a) (cuts a - lowest_or_next l.bounds.windows a) a (accepted m u)
-          (λ p is. there p (h.got (l.own + p) (omega arith) is))),
-      ap given_to same ∙ tell_given (λ p. tells telling (l.own + p)) (lowest_or_next l.bounds.windows a) (cuts a - lowest_or_next l.bounds.windows a) a,
-    )
-  where
-    there : (p : ℕ) → is_some (part_at (accepted m u) (l.own + p - l.own)) ≡ true → is_some (part_at (accepted m u) p) ≡ true
-    there p is = let e : l.own + p - l.own ≡ p = omega arith in subst (λ q. is_some (part_at (accepted m u) q) ≡ true) e is
+    let same = ap (hears_named l a shown) number ∙ ap (λ x. tell_all l a (tells x)) meant_is in
+    subst (λ b. Hears l.tells_parts l.bounds.windows l.own a b (received m u)) (sym same)
+    (hears_all l.tells_parts l.bounds.windows l.own a (received m u) (length (pulled u)) (tells telling) now (λ q is. h.got (l.own + q) (omega arith) is))
 
 -- a part that is taken, or none, at the end with the layout l
-pub takes_load : (late : ℕ) (l m : Layout) (t u : Trace Entry) (k : ℕ) (load : Option Carried) → Facing late m l → Even m.bounds.windows m.own (acts m u) → Follows m.bounds.windows (acts m u) (accepted l t) (length (pulled t))
+pub takes_load : (late : ℕ) (l m : Layout) (t u : Trace Entry) (k : ℕ) (shown : Shown) (load : Option Carried) → Facing late m l → Even m.bounds.windows m.own (acts m u)
+    → Follows m.tells_parts m.bounds.windows m.own (acts m u) (received l t) (length (pulled t))
     → k < late → FliesLoad m.bounds.windows m.own k (acts m u) load
-    → Follows m.bounds.windows (acts m u) (parts_with l (received l t) (length (pulled t)) (arrival l (received l t) (length (pulled t)) (load_shown m load))) (length (pulled t))
-    × Accepts (accepted l t) (parts_with l (received l t) (length (pulled t)) (arrival l (received l t) (length (pulled t)) (load_shown m load)))
-takes_load late l m t u k None g even now soon h = (now, record { stay = λ p is. is; far = omega arith })
-takes_load late l m t u k (Some c) g even now soon h =
+    → Follows m.tells_parts m.bounds.windows m.own (acts m u) (receives l (received l t) (length (pulled t)) (Some (record shown { load = load_shown m load }))) (length (pulled t))
+    × Accepts m.tells_parts m.own (received l t) (receives l (received l t) (length (pulled t)) (Some (record shown { load = load_shown m load })))
+takes_load late l m t u k shown None g even now soon h = (now, accepts_nothing m.tells_parts m.own (received l t))
+takes_load late l m t u k shown (Some c) g even now soon h =
     let r = received l t in
     let n = length (pulled t) in
-    let a : Arrival = record { part = c.part; transmission = l.peer; bytes = c.bytes } in
+    let a : Arrival = record { part = c.part; transmission = cond l.tells_parts l.peer c.transmission; bytes = c.bytes } in
     let is = arrives late m l g (acts m u) r n k even now soon c h in
     let first = g.first in
     let number : c.part ≡ l.peer + h.place = omega (arith, h.number, first) in
-    subst (λ o. Follows m.bounds.windows (acts m u) (parts_with l r n o) n × Accepts r.parts (parts_with l r n o)) (sym is)
-    (takes m.bounds.windows l.bounds.windows.window l.peer (acts m u) r.parts n c.part h.place c.bytes now (same_window late m l g) number h.cut h.bytes)
+    subst (λ o. Follows m.tells_parts m.bounds.windows m.own (acts m u) (record { parts = parts_with l r n o; seen = seen_with r.seen (taken_of l r n o) }) n
+    × Accepts m.tells_parts m.own r (record { parts = parts_with l r n o; seen = seen_with r.seen (taken_of l r n o) })) (sym is)
+    (takes m.tells_parts m.bounds.windows l.bounds.windows.window l.peer m.own (acts m u) r n a.part a.transmission a.bytes now (same_window late m l g)
+    (record {
+      facing = first;
+      some_own = g.here.some_own;
+      place = h.place;
+      number = number;
+      cut = h.cut;
+      is = h.bytes;
+      sent = h.sent;
+      sending = λ e. ap (λ b. cond b l.peer c.transmission) (g.kinds ∙ e) ∙ h.sending;
+      made = h.made;
+      stands = h.stands;
+    }))
 
 -- what a datagram that comes does to both directions
 pub record Effects (l m : Layout) (t u : Trace Entry) (o : Option Shown) : Type 0 where
-  pub heard : Hears l.bounds.windows (acts l t) (hears l (acts l t) o) (accepted m u)
-  pub gave : given_to (hears l (acts l t) o) ≡ given_to (acts l t)
-  pub takes_it : Follows m.bounds.windows (acts m u) (receives l (received l t) (length (pulled t)) o).parts (length (pulled t))
-  pub accepts : Accepts (accepted l t) (receives l (received l t) (length (pulled t)) o).parts
+  pub heard : Hears l.tells_parts l.bounds.windows l.own (acts l t) (hears l (acts l t) o) (received m u)
+  pub takes_it : Follows m.tells_parts m.bounds.windows m.own (acts m u) (receives l (received l t) (length (pulled t)) o) (length (pulled t))
+  pub accepts : Accepts m.tells_parts m.own (received l t) (receives l (received l t) (length (pulled t)) o)
 
 pub effects : (late : ℕ) (l m : Layout) (t u : Trace Entry) (S R : ℕ → Datagram → Type 0) (T U : ℕ → List ℕ → Type 0) (o : Option Shown) → Facing late l m → Facing late m l → Both l m t u S R T U → Comes late m R o → Effects l m t u o
 effects late l m t u S R T U o f g h (Quiet e) = subst (Effects l m t u) (sym e) (record {
-  heard = hears_nothing l.bounds.windows (acts l t) (accepted m u);
-  gave = refl;
+  heard = hears_nothing l.tells_parts l.bounds.windows l.own (acts l t) (received m u);
   takes_it = h.back.now;
-  accepts = record { stay = λ p is. is; far = omega arith };
+  accepts = accepts_nothing m.tells_parts m.own (received l t);
 })
 effects late l m t u S R T U o f g h (Heard k d soon sent e) =
     let hearing = hears_telling_is late l m t u k d.telling d.tells f h.here h.out.now soon (h.out.tellings k d sent) in
-    let taking = takes_load late l m t u k d.load g h.there h.back.now soon (h.back.loads k d sent) in
-    subst (Effects l m t u) (sym e) (record { heard = hearing.0; gave = hearing.1; takes_it = taking.0; accepts = taking.1 })
+    let taking = takes_load late l m t u k (shown_of m d) d.load g h.there h.back.now soon (h.back.loads k d sent) in
+    subst (Effects l m t u) (sym e) (record { heard = hearing; takes_it = taking.0; accepts = taking.1 })
 
 -- the floor stays within what was received
 floor_low : (l : Layout) (r : Received) (n : ℕ) (after : Received) (old : ℕ) (o : Option Shown) → old ≤ last_told l after → floor_shown l r n after old o ≤ last_told l after
@@ -103,26 +104,22 @@ floor_low l r n after old (Some shown) h = by_floor shown.floor
     by_floor None = h
     by_floor (Some low) = by_number (floor_read l r n low)
 
-last_grows : (l : Layout) (r after : Received) → l.tells_parts ≡ true → 1 ≤ l.peer → Accepts r.parts after.parts → last_told l r ≤ last_told l after
-last_grows l r after tells some g =
-    let old = ap (λ b. cond b (last_part l r) (last_seen l r)) tells in
-    let new = ap (λ b. cond b (last_part l after) (last_seen l after)) tells in
-    omega (arith, old, new, last_is r.parts l.peer some, last_is after.parts l.peer some, g.far)
-
 pub comes : (late : ℕ) (l m : Layout) (t u : Trace Entry) (now : ℕ) (datagram : List ℕ) (took : Took) (S R : ℕ → Datagram → Type 0) (T U : ℕ → List ℕ → Type 0) → Facing late l m → Facing late m l
     → Comes late m R (effect l took datagram) → Both l m t u S R T U → Both l m (t ▷ In now datagram took) u S R T U
 comes late l m t u now datagram took S R T U f g c h =
     let o = effect l took datagram in
     let x = effects late l m t u S R T U o f g h c in
+    let informed = informs_hears l (acts l t) o in
+    let after = receives l (received l t) (length (pulled t)) o in
     record {
-      out = way_hears l.bounds.windows l.own (acts l t) (hears l (acts l t) o) (accepted m u) (length (pulled u)) S R h.out x.heard;
-      back = way_takes m.bounds.windows m.own (acts m u) (accepted l t) (receives l (received l t) (length (pulled t)) o).parts (length (pulled t)) R S h.back x.takes_it x.accepts;
-      here = even_hears l.bounds.windows l.own (acts l t) (hears l (acts l t) o) (accepted m u) x.heard x.gave h.here;
+      out = way_hears l.tells_parts l.bounds.windows l.bounds.tell l.own (acts l t) (hears l (acts l t) o) (received m u) (length (pulled u)) S R h.out x.heard;
+      back = way_takes m.tells_parts m.bounds.windows m.bounds.tell m.own (acts m u) (received l t) after (length (pulled t)) R S h.back x.takes_it x.accepts;
+      here = even_informs l.bounds.windows l.own (acts l t) (hears l (acts l t) o) informed h.here;
       there = h.there;
-      given_here = x.gave ∙ h.given_here;
+      given_here = informed.given_is ∙ h.given_here;
       given_there = h.given_there;
-      low_here = floor_low l (received l t) (length (pulled t)) (receives l (received l t) (length (pulled t)) o) (floor l t) o
-          (omega (arith, h.low_here, last_grows l (received l t) (receives l (received l t) (length (pulled t)) o) g.there_tells g.there.some_peer x.accepts));
+      low_here = floor_low l (received l t) (length (pulled t)) after (floor l t) o
+          (omega (arith, h.low_here, told_behind late m l g (received l t), told_behind late m l g after, x.accepts.far));
       low_there = h.low_there;
       means_here = h.means_here;
       means_there = h.means_there;

@@ -8,7 +8,7 @@ use Rattle.mt_windows.specs.Sending.{Act, given as given_to, pieces, piece, wait
 use Rattle.mt_windows.proofs.Counts.{pieces_count}
 use Rattle.mt_windows.proofs.Pieces.{pieces_and_rest}
 use Rattle.carrier.specs.Entries.{Entry, Gave, Polled, Pulled, given, pulled}
-use Rattle.carrier.specs.Layout.{Layout, Datagram, Received, Shows}
+use Rattle.carrier.specs.Layout.{Layout, Datagram, Shows}
 use Rattle.carrier.specs.Receiving.{received, accepted, floor, last_told}
 use Rattle.carrier.specs.Sending.{acts, sends}
 use Rattle.carrier.specs.Due.{meant, due}
@@ -29,8 +29,8 @@ pub record Spelled (l : Layout) (f : Datagram) (datagram : List ℕ) : Type 0 wh
 -- Two ends: `S k f` and `R k f` say that the first and the second end sent what f means, after which k
 -- datagrams were sent; `T` and `U` say the same of the bytes.
 pub record Both (l m : Layout) (t u : Trace Entry) (S R : ℕ → Datagram → Type 0) (T U : ℕ → List ℕ → Type 0) : Type 0 where
-  pub out : Way l.bounds.windows l.own (acts l t) (accepted m u) (length (pulled u)) S R
-  pub back : Way m.bounds.windows m.own (acts m u) (accepted l t) (length (pulled t)) R S
+  pub out : Way l.tells_parts l.bounds.windows l.bounds.tell l.own (acts l t) (received m u) (length (pulled u)) S R
+  pub back : Way m.tells_parts m.bounds.windows m.bounds.tell m.own (acts m u) (received l t) (length (pulled t)) R S
   pub here : Even l.bounds.windows l.own (acts l t)
   pub there : Even m.bounds.windows m.own (acts m u)
   pub given_here : given_to (acts l t) ≡ given t
@@ -58,12 +58,18 @@ swap l m t u S R T U h = record {
 
 pub gives : (l m : Layout) (t u : Trace Entry) (S R : ℕ → Datagram → Type 0) (T U : ℕ → List ℕ → Type 0) (bytes : List ℕ) → All (λ b. b < 256) bytes → Both l m t u S R T U → Both l m (t ▷ Gave bytes) u S R T U
 gives l m t u S R T U bytes is h = record {
-  out = way_hears l.bounds.windows l.own (acts l t) (acts l t ▷ GaveBytes bytes) (accepted m u) (length (pulled u)) S R h.out
-      (record { cuts_are = refl; pieces_are = λ p. refl; keeps = λ p e. e; told = λ p e. inl e });
+  out = way_hears l.tells_parts l.bounds.windows l.bounds.tell l.own (acts l t) (acts l t ▷ GaveBytes bytes) (received m u) (length (pulled u)) S R h.out
+      (record {
+        keeps = record { cuts_are = refl; made_are = refl; pieces_are = λ p. refl; stands = λ j. refl; settles = λ p e. e; knows = λ j e. e };
+        settled_by = λ p e. inl e;
+        known_by = λ k j e. inl e;
+      });
   back = h.back;
   here = record {
     window = h.here.window;
     numbers = h.here.numbers;
+    made = h.here.made;
+    reaches = h.here.reaches;
     bytes = All-append (λ b. b < 256) (given_to (acts l t)) bytes h.here.bytes is;
     pieces = h.here.pieces;
   };
@@ -79,7 +85,7 @@ gives l m t u S R T U bytes is h = record {
 pub pulls : (l m : Layout) (t u : Trace Entry) (S R : ℕ → Datagram → Type 0) (T U : ℕ → List ℕ → Type 0) (room : ℕ) (bytes : List ℕ) → Both l m t u S R T U → Both l m (t ▷ Pulled room bytes) u S R T U
 pulls l m t u S R T U room bytes h = record {
   out = h.out;
-  back = way_pulls m.bounds.windows m.own (acts m u) (accepted l t) (length (pulled t)) (length (pulled t ++ bytes)) R S h.back (omega (arith, length-append (pulled t) bytes));
+  back = way_pulls m.tells_parts m.bounds.windows m.bounds.tell m.own (acts m u) (received l t) (length (pulled t)) (length (pulled t ++ bytes)) R S h.back (omega (arith, length-append (pulled t) bytes));
   here = h.here;
   there = h.there;
   given_here = h.given_here;
@@ -93,9 +99,9 @@ pulls l m t u S R T U room bytes h = record {
 -- a call that neither end looks at again
 pub same_ends : (l m : Layout) (t v u : Trace Entry) (S R : ℕ → Datagram → Type 0) (T U : ℕ → List ℕ → Type 0) → acts l v ≡ acts l t → received l v ≡ received l t → pulled v ≡ pulled t → given v ≡ given t → floor l v ≡ floor l t → Both l m t u S R T U → Both l m v u S R T U
 same_ends l m t v u S R T U acts_are received_are pulled_are given_are floor_is h = record {
-  out = subst (λ a. Way l.bounds.windows l.own a (accepted m u) (length (pulled u)) S R) (sym acts_are) h.out;
-  back = subst (λ (r : Received). Way m.bounds.windows m.own (acts m u) r.parts (length (pulled v)) R S) (sym received_are)
-      (subst (λ xs. Way m.bounds.windows m.own (acts m u) (accepted l t) (length xs) R S) (sym pulled_are) h.back);
+  out = subst (λ a. Way l.tells_parts l.bounds.windows l.bounds.tell l.own a (received m u) (length (pulled u)) S R) (sym acts_are) h.out;
+  back = subst (λ r. Way m.tells_parts m.bounds.windows m.bounds.tell m.own (acts m u) r (length (pulled v)) R S) (sym received_are)
+      (subst (λ xs. Way m.tells_parts m.bounds.windows m.bounds.tell m.own (acts m u) (received l t) (length xs) R S) (sym pulled_are) h.back);
   here = subst (λ a. Even l.bounds.windows l.own a) (sym acts_are) h.here;
   there = h.there;
   given_here = ap given_to acts_are ∙ h.given_here ∙ sym given_are;
@@ -131,18 +137,18 @@ pub polls : (late : ℕ) (l m : Layout) (t u : Trace Entry) (now : ℕ) (datagra
     → Some datagram ≡ due l t now → Later l t now datagram S R S' R' T U T' U' → Both l m t u S R T U → Both l m (t ▷ Polled now (Some datagram)) u S' R' T' U'
 polls late l m t u now datagram S R S' R' T U T' U' f g is_due sets h =
     let was = was_meant l (meant l t now) datagram is_due in
-    let x = says l t (alone late l m f) h.here was.0 (outcome l t _ was.0 f.here_tells was.1) in
+    let x = says l t (alone late l m f) h.here was.0 (outcome l t _ was.0 was.1) in
     let after = sends l (acts l t) (l.read datagram) in
     let same : sends l (acts l t) (l.read (l.spell was.0)) ≡ after = ap (λ d. sends l (acts l t) (l.read d)) (sym was.2) in
     let s : Says l t was.0 after = subst (λ b. Says l t was.0 b) same x in
     record {
-      out = way_sends l.bounds.windows l.own (acts l t) after (accepted m u) (length (pulled u)) S R S' R' h.out s.grown
+      out = way_sends l.tells_parts l.bounds.windows l.bounds.tell l.own (acts l t) after (received m u) (length (pulled u)) S R S' R' h.out s.grown
           (λ e here. subst (λ (y : Datagram). FliesLoad l.bounds.windows l.own 0 after y.load) (one e was.0 (sets.sent e here) was.1) s.load)
-          (λ e here. subst (λ (y : Datagram). LowFloor l.bounds.windows l.own 0 after y.floor) (one e was.0 (sets.sent e here) was.1) s.low)
+          (λ e here. subst (λ (y : Datagram). LowFloor l.tells_parts l.bounds.windows l.own 0 after y.floor) (one e was.0 (sets.sent e here) was.1) s.low)
           sets.older sets.none sets.older_there;
-      back = way_tells m.bounds.windows m.own (acts m u) (accepted l t) (length (pulled t)) R S R' S' h.back
-          (λ e here. subst (λ (y : Datagram). Told m.bounds.windows m.own 0 (acts m u) (accepted l t) y.telling) (one e was.0 (sets.sent e here) was.1)
-          (subst (λ y. Told m.bounds.windows m.own 0 (acts m u) (accepted l t) y) (sym s.telling)
+      back = way_tells m.tells_parts m.bounds.windows m.bounds.tell m.own (acts m u) (received l t) (length (pulled t)) R S R' S' h.back
+          (λ e here. subst (λ (y : Datagram). Told m.tells_parts m.bounds.windows m.bounds.tell m.own 0 (acts m u) (received l t) y.telling) (one e was.0 (sets.sent e here) was.1)
+          (subst (λ y. Told m.tells_parts m.bounds.windows m.bounds.tell m.own 0 (acts m u) (received l t) y) (sym s.telling)
           (told_now late m l g (acts m u) (received l t) (length (pulled t)) h.there h.back.now (floor l t) h.low_here)))
           sets.older sets.none sets.older_there;
       here = s.even;
@@ -174,13 +180,15 @@ pub even_start : (late : ℕ) (l m : Layout) → Facing late l m → Even l.boun
 even_start late l m f = record {
   window = λ p is. absurd (let less = open_cut l.bounds.windows Start p is in omega (arith, less));
   numbers = λ less. omega (arith, less);
+  made = λ less. omega (arith, less);
+  reaches = omega arith;
   bytes = All-nil (λ b. b < 256);
   pieces = λ p. (omega arith, All-nil (λ b. b < 256));
 }
 
-pub way_start : (l m : Layout) (S R : ℕ → Datagram → Type 0) → ((k : ℕ) (f : Datagram) → S k f → ⊥) → ((k : ℕ) (f : Datagram) → R k f → ⊥) → Way l.bounds.windows l.own Start [] 0 S R
+pub way_start : (l m : Layout) (S R : ℕ → Datagram → Type 0) → ((k : ℕ) (f : Datagram) → S k f → ⊥) → ((k : ℕ) (f : Datagram) → R k f → ⊥) → Way l.tells_parts l.bounds.windows l.bounds.tell l.own Start (record { parts = []; seen = [] }) 0 S R
 way_start l m S R none never = record {
-  now = record { same = λ p bytes is. absurd (cc); got = λ p is. absurd (cc); room = omega arith };
+  now = record { same = λ p bytes is. absurd (cc); got = λ p is. absurd (cc); room = omega arith; seen = λ e q is. absurd (cc); known = λ e j is. absurd (cc) };
   loads = λ k f s. absurd (none k f s);
   floors = λ k f s. absurd (none k f s);
   tellings = λ k f r. absurd (never k f r);

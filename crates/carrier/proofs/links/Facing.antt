@@ -8,29 +8,24 @@ use Rattle.mt_base.specs.Nearness.{nearest}
 use Rattle.mt_base.proofs.LowPart.{nearest_meant}
 use Rattle.carrier.specs.Layout.{Layout, Bounds, bounded, read_near}
 use Rattle.carrier.specs.LayoutLaw.{IsLayout, low_part}
-use Rattle.carrier.specs.TwoLinks.{Margins}
+use Rattle.carrier.specs.TwoLinks.{Enough, Margins}
 
 pub record Facing (late : ℕ) (l m : Layout) : Type 0 where
   pub here : IsLayout l
   pub there : IsLayout m
-  pub here_tells : l.tells_parts ≡ true
-  pub there_tells : m.tells_parts ≡ true
-  pub there_last : m.bounds.tell ≡ 0
+  pub kinds : m.tells_parts ≡ l.tells_parts
   pub reads : (datagram : List ℕ) → m.read datagram ≡ l.read datagram
   pub first : m.peer ≡ l.own
   pub bounds : m.bounds ≡ l.bounds
   pub half : ℕ
   pub here_modulus : l.modulus ≡ 2 * half
   pub there_modulus : m.modulus ≡ 2 * half
-  pub some_window : 0 < l.bounds.windows.window
-  pub two_windows : 2 * l.bounds.windows.window ≤ half
-  pub late_too : l.bounds.windows.window + late ≤ half
+  pub enough : Enough late half l.tells_parts l.bounds
   pub numbers : l.own ≤ l.bounds.windows.numbers
 
--- one end alone: its layout tells parts, and leaves room for its window
+-- one end alone: its layout leaves room for its window
 pub record Alone (l : Layout) : Type 0 where
   pub here : IsLayout l
-  pub here_tells : l.tells_parts ≡ true
   pub half : ℕ
   pub here_modulus : l.modulus ≡ 2 * half
   pub some_half : 0 < half
@@ -39,11 +34,10 @@ pub record Alone (l : Layout) : Type 0 where
 pub alone : (late : ℕ) (l m : Layout) → Facing late l m → Alone l
 alone late l m f = record {
   here = f.here;
-  here_tells = f.here_tells;
   half = f.half;
   here_modulus = f.here_modulus;
-  some_half = omega (arith, f.some_window, f.two_windows);
-  one_window = omega (arith, f.late_too);
+  some_half = omega (arith, f.enough.some_window, f.enough.two_windows);
+  one_window = omega (arith, f.enough.window_and_late);
 }
 
 other_twice : (s : Role) → other (other s) ≡ s
@@ -54,26 +48,25 @@ pub facing : (late : ℕ) (layouts : Role → Layout) (s : Role) → Margins lat
 facing late layouts s h = record {
   here = h.layout s;
   there = h.layout (other s);
-  here_tells = h.tells_parts s;
-  there_tells = h.tells_parts (other s);
-  there_last = h.tells_last (other s);
+  kinds = sym (h.kinds s);
   reads = λ d. sym (h.reads s d);
   first = sym (h.faces s);
   bounds = sym (h.bounds s);
   half = h.room;
   here_modulus = h.modulus s;
   there_modulus = h.modulus (other s);
-  some_window = h.some_window s;
-  two_windows = h.two_windows s;
-  late_too = h.window_and_late s;
+  enough = h.enough s;
   numbers = h.numbers s;
 }
 
 pub same_window : (late : ℕ) (l m : Layout) → Facing late l m → m.bounds.windows.window ≡ l.bounds.windows.window
 same_window late l m f = ap (λ (b : Bounds). b.windows.window) f.bounds
 
+pub same_tell : (late : ℕ) (l m : Layout) → Facing late l m → m.bounds.tell ≡ l.bounds.tell
+same_tell late l m f = ap (λ (b : Bounds). b.tell) f.bounds
+
 pub some_half : (late : ℕ) (l m : Layout) (f : Facing late l m) → 0 < f.half
-some_half late l m f = omega (arith, f.some_window, f.two_windows)
+some_half late l m f = omega (arith, f.enough.some_window, f.enough.two_windows)
 
 -- a number that is near to the reference is read from its low part
 pub read_is : (m : Layout) (half modulus reference n : ℕ) → m.modulus ≡ 2 * half → modulus ≡ 2 * half → 0 < half → reference ≤ n + half → n < reference + half → n < m.bounds.windows.numbers → read_near m reference (n % modulus) ≡ Some n

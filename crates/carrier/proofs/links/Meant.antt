@@ -1,9 +1,9 @@
 -- A datagram that comes in time is read as it was meant.
-use Rattle.std.proofs.Common.{◌≡◌, ℕ, ◌<◌, Bool, true, false, List, length, Option, Some, None, is_some, option_map, refl, ap, ◌∙◌}
+use Rattle.std.proofs.Common.{◌≡◌, ℕ, ◌<◌, Bool, true, false, cond, List, length, Option, Some, None, is_some, option_map, refl, ap, ◌∙◌}
 use Rattle.mt_base.specs.Trace.{Trace}
 use Rattle.carrier.specs.Entries.{Entry, pulled}
 use Rattle.carrier.specs.Layout.{Layout, Carried, Datagram, Telling, named_in, read_near}
-use Rattle.carrier.specs.Receiving.{received, accepted}
+use Rattle.carrier.specs.Receiving.{received}
 use Rattle.carrier.specs.Sending.{acts, told_reference}
 use Rattle.carrier.specs.LayoutLaw.{shown_of, load_shown, telling_shown, low_part}
 use Rattle.carrier.specs.TwoLinks.{Reads, LoadRead, TellingRead, FloorRead}
@@ -19,13 +19,14 @@ module _ (late : ℕ) (l m : Layout) (t u : Trace Entry) (S R : ℕ → Datagram
   load_is : (load : Option Carried) → FliesLoad m.bounds.windows m.own k (acts m u) load → LoadRead l t (load_shown m load) load
   load_is None fly = refl
   load_is (Some c) fly = (
-    record { part = c.part; transmission = l.peer; bytes = c.bytes },
+    record { part = c.part; transmission = cond l.tells_parts l.peer c.transmission; bytes = c.bytes },
     arrives late m l g (acts m u) (received l t) (length (pulled t)) k h.there h.back.now soon c fly,
     refl,
     refl,
+    λ e. ap (λ b. cond b l.peer c.transmission) e,
   )
 
-  low_is : (floor : Option ℕ) → LowFloor m.bounds.windows m.own k (acts m u) floor → FloorRead l t (option_map (low_part m) floor) floor
+  low_is : (floor : Option ℕ) → LowFloor m.tells_parts m.bounds.windows m.own k (acts m u) floor → FloorRead l t (option_map (low_part m) floor) floor
   low_is None fly = refl
   low_is (Some x) fly = (low_part m x, refl, floor_is late m l g (acts m u) (received l t) (length (pulled t)) k h.there h.back.now soon x fly)
 
@@ -33,7 +34,7 @@ module _ (late : ℕ) (l m : Layout) (t u : Trace Entry) (S R : ℕ → Datagram
   tells_is true telling = refl
   tells_is false telling = refl
 
-  telling_is : (b : Bool) (telling : Telling) → Told l.bounds.windows l.own k (acts l t) (accepted m u) telling → TellingRead l t (telling_shown m b telling) telling
+  telling_is : (b : Bool) (telling : Telling) → Told l.tells_parts l.bounds.windows l.bounds.tell l.own k (acts l t) (received m u) telling → TellingRead l t (telling_shown m b telling) telling
   telling_is false telling told = tt
   telling_is true telling told = (
     named_in telling,

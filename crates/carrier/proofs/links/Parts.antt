@@ -85,7 +85,41 @@ drained_put (Some b ∷ parts) (suc k) n bytes none = by_test (drained_put parts
     by_test rest true = omega (arith, rest)
     by_test rest false = omega arith
 
+-- what was drained is there
+pub drained_there : (parts : Parts) (n p : ℕ) → p < drained parts n → is_some (part_at parts p) ≡ true
+drained_there [] n p less = absurd (omega (arith, less))
+drained_there (None ∷ parts) n p less = absurd (omega (arith, less))
+drained_there (Some b ∷ parts) n zero less = refl
+drained_there (Some b ∷ parts) n (suc p) less = by_test (drained_there parts (n - length b) p) (leb (length b) n) less
+  where
+    by_test : (p < drained parts (n - length b) → is_some (part_at parts p) ≡ true) → (t : Bool) → suc p < cond t (suc (drained parts (n - length b))) 0 → is_some (part_at parts p) ≡ true
+    by_test rest true less = rest (omega (arith, less))
+    by_test rest false less = absurd (omega (arith, less))
+
 -- ---- a part that arrives
+
+-- a part by its number
+pub has_there : (first : ℕ) (parts : Parts) (part place : ℕ) → part ≡ first + place → has_part first parts part ≡ true → is_some (part_at parts place) ≡ true
+has_there first parts part place number h =
+    let in_range : ltb part first ≡ false = grind (arith, nat_tests) in
+    let same : part - first ≡ place = omega (arith, number) in
+    subst (λ q. is_some (part_at parts q) ≡ true) same (sym (ap (λ b. cond b false (is_some (part_at parts (part - first)))) in_range) ∙ h)
+
+-- one that was there before
+pub again_there : (window first : ℕ) (parts : Parts) (n part place : ℕ) → part ≡ first + place → verdict window first parts n part ≡ Again → is_some (part_at parts place) ≡ true
+again_there window first parts n part place number h = by_low (ltb part (first + drained parts n)) refl h
+  where
+    by_has : (b : Bool) → has_part first parts part ≡ b → cond b Again New ≡ Again → is_some (part_at parts place) ≡ true
+    by_has true e is = has_there first parts part place number e
+    by_has false e is = absurd (cc)
+
+    by_high : (b : Bool) → cond b (Beyond (first + drained parts n + window)) (cond (has_part first parts part) Again New) ≡ Again → is_some (part_at parts place) ≡ true
+    by_high true is = absurd (cc)
+    by_high false is = by_has (has_part first parts part) refl is
+
+    by_low : (b : Bool) → ltb part (first + drained parts n) ≡ b → cond b Again (cond (leb (first + drained parts n + window) part) (Beyond (first + drained parts n + window)) (cond (has_part first parts part) Again New)) ≡ Again → is_some (part_at parts place) ≡ true
+    by_low true e is = drained_there parts n place (let less : part < first + drained parts n = grind (arith, nat_tests) in omega (arith, less, number))
+    by_low false e is = by_high (leb (first + drained parts n + window) part) is
 
 pub new_below : (window first : ℕ) (parts : Parts) (n part : ℕ) → verdict window first parts n part ≡ New → part < first + drained parts n + window
 new_below window first parts n part h = by_low (ltb part (first + drained parts n)) h

@@ -1,94 +1,125 @@
 -- What a datagram under way is read as where it comes, by the margins.
-use Rattle.std.proofs.Common.{◌≡◌, ℕ, ◌+◌, ◌-◌, ◌*◌, ◌<◌, ◌≤◌, Bool, true, false, ltb, cond, Some, None, is_some, unwrap_or, refl, sym, ap, ◌∙◌, subst, arith}
-use Rattle.std.proofs.lemmas.Bool.Decides.{nat_tests}
+use Rattle.std.proofs.Common.{◌≡◌, ℕ, ◌+◌, ◌-◌, ◌*◌, ◌<◌, ◌≤◌, Bool, true, false, cond, Some, refl, sym, ap, ◌∙◌, subst, arith}
 use Rattle.mt_base.specs.Trace.{Trace}
-use Rattle.mt_windows.specs.Arrived.{Parts, part_at, drained, end_of, greatest_part, has_part}
-use Rattle.mt_windows.specs.Noted.{is_noted}
+use Rattle.mt_windows.specs.Arrived.{drained}
 use Rattle.mt_windows.specs.Sending.{Act, cuts, transmissions, lowest_or_next}
 use Rattle.carrier.specs.Layout.{Layout, Bounds, Carried, Received, Telling, Carries, named_in, read_near}
-use Rattle.carrier.specs.Receiving.{arrival, arrival_of, part_read, transmission_read, floor_read, next_part, last_seen, last_part, last_told}
+use Rattle.carrier.specs.Receiving.{arrival, arrival_of, part_read, transmission_read, floor_read, next_part, last_seen, last_told}
 use Rattle.carrier.specs.Sending.{told_reference}
 use Rattle.carrier.specs.LayoutLaw.{is_received, low_part}
-use Rattle.carrier.proofs.links.Invariant.{Even, Follows, Flies, Low, Told}
+use Rattle.carrier.specs.TwoLinks.{ahead}
+use Rattle.carrier.proofs.links.Invariant.{Even, Follows, Flies, Low, Told, behind, count, has}
 use Rattle.carrier.proofs.links.Numbers.{below_lowest}
-use Rattle.carrier.proofs.links.Parts.{drained_within, last_is}
+use Rattle.carrier.proofs.links.Parts.{drained_within}
 use Rattle.carrier.proofs.links.Steps.{cuts_within, reached, end_within}
-use Rattle.carrier.proofs.links.Facing.{Facing, some_half, read_is}
+use Rattle.carrier.proofs.links.Around.{last_behind, behind_within, count_near, count_numbers}
+use Rattle.carrier.proofs.links.Facing.{Facing, same_tell, some_half, read_is}
+
+-- the number behind the last one that is told, from the sender's side
+pub told_behind : (late : ℕ) (l m : Layout) → Facing late l m → (r : Received) → last_told m r + 1 ≡ behind l.tells_parts l.own r
+told_behind late l m f r =
+    last_behind m.tells_parts m.peer r f.there.some_peer
+    ∙ ap (λ kind. behind kind m.peer r) f.kinds ∙ ap (λ first. behind l.tells_parts first r) f.first
 
 -- `l` is the layout of the sender and `m` that of the receiver
-module _ (late : ℕ) (l m : Layout) (f : Facing late l m) (a : Trace Act) (r : Received) (n : ℕ) (even : Even l.bounds.windows l.own a) (now : Follows l.bounds.windows a r.parts n) where
+module _ (late : ℕ) (l m : Layout) (f : Facing late l m) (a : Trace Act) (r : Received) (n : ℕ) (even : Even l.bounds.windows l.own a) (now : Follows l.tells_parts l.bounds.windows l.own a r n) where
   -- the margin below: nothing was drained that wasn't cut
   pub drained_cut : drained r.parts n ≤ cuts a
-  drained_cut = omega (arith, drained_within r.parts n, end_within l.bounds.windows a r.parts n now)
+  drained_cut = omega (arith, drained_within r.parts n, end_within l.tells_parts l.bounds.windows l.own a r n now)
 
   -- the margin above: what was cut ends two windows above what was drained
   pub cut_near : cuts a ≤ drained r.parts n + 2 * l.bounds.windows.window
   cut_near =
-      omega (arith, cuts_within l.bounds.windows l.own a even, reached l.bounds.windows a r.parts n (lowest_or_next l.bounds.windows a) now (below_lowest l.bounds.windows a), now.room)
+      omega (arith, cuts_within l.bounds.windows l.own a even, reached l.tells_parts l.bounds.windows l.own a r n (lowest_or_next l.bounds.windows a) now (below_lowest l.bounds.windows a), now.room)
 
   -- a telling that is sent now
-  pub told_now : (above : ℕ) → above ≤ last_told m r → Told l.bounds.windows l.own 0 a r.parts (m.told r above)
+  pub told_now : (above : ℕ) → above ≤ last_told m r → Told l.tells_parts l.bounds.windows l.bounds.tell l.own 0 a r (m.told r above)
   told_now above low =
-      let last = ap (λ b. cond b (last_part m r) (last_seen m r)) f.there_tells in
-      let named : named_in (m.told r above) ≡ last_part m r = omega (arith, f.there.named_near r above, f.there.named_within r above low, f.there_last, last) in
-      let number = last_is r.parts m.peer f.there.some_peer in
-      let first = f.first in
-      let far = reached l.bounds.windows a r.parts n (lowest_or_next l.bounds.windows a) now (below_lowest l.bounds.windows a) in
+      let last = told_behind late l m f r in
       record {
-        got = λ q le is. got q (omega (arith, first, le)) (f.there.received r above q (omega (arith, first, le)) is);
-        within = omega (arith, named, number, first);
-        near = omega (arith, named, number, first, far, cuts_within l.bounds.windows l.own a even);
+        got = λ q le is. got q (f.there.received r above q (omega (arith, first, le)) is);
+        within = omega (arith, last, f.there.named_within r above low);
+        near = omega (arith, last, f.there.named_near r above, same_tell late l m f, count_near l.tells_parts l.bounds.windows l.own a r n f.here.some_own even now);
       }
     where
-      got : (q : ℕ) → m.peer ≤ q → is_received m r q ≡ true → is_some (part_at r.parts (q - l.own)) ≡ true
-      got q le is =
-          let has : has_part m.peer r.parts q ≡ true = sym (ap (λ b. cond b (has_part m.peer r.parts q) (is_noted q r.seen)) f.there_tells) ∙ is in
-          let in_range : ltb q m.peer ≡ false = grind (arith, nat_tests) in
-          let there : is_some (part_at r.parts (q - m.peer)) ≡ true = sym (ap (λ b. cond b false (is_some (part_at r.parts (q - m.peer)))) in_range) ∙ has in
-          subst (λ x. is_some (part_at r.parts (q - x)) ≡ true) f.first there
+      first : m.peer ≡ l.own
+      first = f.first
 
-module _ (late : ℕ) (l m : Layout) (f : Facing late l m) (a : Trace Act) (r : Received) (n k : ℕ) (even : Even l.bounds.windows l.own a) (now : Follows l.bounds.windows a r.parts n) (soon : k < late) where
+      got : (q : ℕ) → is_received m r q ≡ true → has l.tells_parts l.own r q ≡ true
+      got q is = sym (ap (λ kind. has kind m.peer r q) f.kinds ∙ ap (λ x. has l.tells_parts x r q) f.first) ∙ is
+
+module _ (late : ℕ) (l m : Layout) (f : Facing late l m) (a : Trace Act) (r : Received) (n k : ℕ) (even : Even l.bounds.windows l.own a) (now : Follows l.tells_parts l.bounds.windows l.own a r n) (soon : k < late) where
   some : 0 < f.half
   some = some_half late l m f
 
   below_numbers : (place : ℕ) → place < cuts a → l.own + place < m.bounds.windows.numbers
   below_numbers place less = subst (λ (b : Bounds). l.own + place < b.windows.numbers) (sym f.bounds) (omega (arith, less, even.numbers f.numbers))
 
+  made_numbers : (place : ℕ) → place < transmissions a → l.own + place < m.bounds.windows.numbers
+  made_numbers place less = subst (λ (b : Bounds). l.own + place < b.windows.numbers) (sym f.bounds) (omega (arith, less, even.made f.numbers))
+
   -- the number of a part
   pub part_is : (c : Carried) → Flies l.bounds.windows l.own k a c → part_read m r n (low_part l c.part) ≡ Some c.part
   part_is c h =
       let first = f.first in
-      let low : m.peer + drained r.parts n ≤ c.part + f.half = omega (arith, first, h.number, drained_cut late l m f a r n even now, h.near, f.late_too, soon) in
-      let high : c.part < m.peer + drained r.parts n + f.half = omega (arith, first, h.number, h.cut, cut_near late l m f a r n even now, f.two_windows) in
+      let low : m.peer + drained r.parts n ≤ c.part + f.half = omega (arith, first, h.number, drained_cut late l m f a r n even now, h.near, f.enough.window_and_late, soon) in
+      let high : c.part < m.peer + drained r.parts n + f.half = omega (arith, first, h.number, h.cut, cut_near late l m f a r n even now, f.enough.two_windows) in
       let less : c.part < m.bounds.windows.numbers = omega (arith, h.number, below_numbers h.place h.cut) in
       read_is m f.half l.modulus (m.peer + drained r.parts n) c.part f.there_modulus f.here_modulus some low high less
 
+  -- a number around the last transmission that was seen, where transmissions are told
+  made_is : (x place : ℕ) → m.tells_parts ≡ false → x ≡ l.own + place → place < transmissions a → transmissions a ≤ place + l.bounds.windows.span + 1 + k → read_near m (last_seen m r) (low_part l x) ≡ Some x
+  made_is x place is number made recent =
+      let kind : l.tells_parts ≡ false = sym f.kinds ∙ is in
+      let windows = l.bounds.windows in
+      let own = l.own in
+      let some_own = f.here.some_own in
+      let here : Follows false windows own a r n = subst (λ b. Follows b windows own a r n) kind now in
+      let last : last_seen m r + 1 ≡ behind false own r = last_behind false m.peer r f.there.some_peer ∙ ap (λ p. behind false p r) f.first in
+      let within : last_seen m r + 1 ≤ own + transmissions a = omega (arith, last, behind_within false windows own a r n some_own here) in
+      let near : own + transmissions a ≤ last_seen m r + 1 + windows.span = omega (arith, last, count_near false windows own a r n some_own even here) in
+      let room : windows.span + l.bounds.tell + late ≤ f.half = subst (λ b. ahead b windows + l.bounds.tell + late ≤ f.half) kind f.enough.told_and_late in
+      read_is m f.half l.modulus (last_seen m r) x f.there_modulus f.here_modulus some (omega (arith, within, number, recent, room, soon)) (omega (arith, near, number, made, room, soon))
+      (omega (arith, number, made_numbers place made))
+
+  -- the number of a transmission
+  pub transmission_is : (c : Carried) → Flies l.bounds.windows l.own k a c → transmission_read m r (low_part l c.transmission) ≡ Some (cond m.tells_parts m.peer c.transmission)
+  transmission_is c h = by_kind m.tells_parts refl
+    where
+      by_kind : (b : Bool) → m.tells_parts ≡ b → cond b (Some m.peer) (read_near m (last_seen m r) (low_part l c.transmission)) ≡ Some (cond b m.peer c.transmission)
+      by_kind true e = refl
+      by_kind false e = made_is c.transmission h.sent e h.sending h.made (omega (arith, h.recent))
+
   -- what arrives
-  pub arrives : (c : Carried) → Flies l.bounds.windows l.own k a c → arrival m r n (Carries (low_part l c.part) (low_part l c.transmission) c.bytes) ≡ Some (record { part = c.part; transmission = m.peer; bytes = c.bytes })
+  pub arrives : (c : Carried) → Flies l.bounds.windows l.own k a c
+      → arrival m r n (Carries (low_part l c.part) (low_part l c.transmission) c.bytes) ≡ Some (record { part = c.part; transmission = cond m.tells_parts m.peer c.transmission; bytes = c.bytes })
   arrives c h =
-      let any : transmission_read m r (low_part l c.transmission) ≡ Some m.peer =
-      ap (λ b. cond b (Some m.peer) (read_near m (last_seen m r) (low_part l c.transmission))) f.there_tells in
-      ap (λ o. arrival_of o (transmission_read m r (low_part l c.transmission)) c.bytes) (part_is c h) ∙ ap (λ o. arrival_of (Some c.part) o c.bytes) any
+      ap (λ o. arrival_of o (transmission_read m r (low_part l c.transmission)) c.bytes) (part_is c h) ∙ ap (λ o. arrival_of (Some c.part) o c.bytes) (transmission_is c h)
 
   -- the floor
-  pub floor_is : (x : ℕ) → Low l.bounds.windows l.own k a x → floor_read m r n (low_part l x) ≡ Some x
-  floor_is x h =
-      let first = f.first in
-      let far = reached l.bounds.windows a r.parts n h.place now h.below in
-      let low : m.peer + drained r.parts n ≤ x + f.half = omega (arith, first, h.number, drained_cut late l m f a r n even now, h.near, f.late_too, soon) in
-      let high : x < m.peer + drained r.parts n + f.half = omega (arith, first, h.number, far, now.room, f.two_windows, f.some_window) in
-      let less : x < m.bounds.windows.numbers = omega (arith, h.number, below_numbers h.place h.cut) in
-      ap (λ b. read_near m (cond b (next_part m r n) (last_seen m r)) (low_part l x)) f.there_tells
-      ∙ read_is m f.half l.modulus (m.peer + drained r.parts n) x f.there_modulus f.here_modulus some low high less
+  pub floor_is : (x : ℕ) → Low l.tells_parts l.bounds.windows l.own k a x → floor_read m r n (low_part l x) ≡ Some x
+  floor_is x h = by_kind m.tells_parts refl
+    where
+      of_part : l.tells_parts ≡ true → read_near m (next_part m r n) (low_part l x) ≡ Some x
+      of_part e =
+          let first = f.first in
+          let far = reached l.tells_parts l.bounds.windows l.own a r n h.place now (h.below e) in
+          let low : m.peer + drained r.parts n ≤ x + f.half = omega (arith, first, h.number, drained_cut late l m f a r n even now, h.near e, f.enough.window_and_late, soon) in
+          let high : x < m.peer + drained r.parts n + f.half = omega (arith, first, h.number, far, now.room, f.enough.two_windows, f.enough.some_window) in
+          let less : x < m.bounds.windows.numbers = omega (arith, h.number, below_numbers h.place (h.cut e)) in
+          read_is m f.half l.modulus (m.peer + drained r.parts n) x f.there_modulus f.here_modulus some low high less
+
+      by_kind : (b : Bool) → m.tells_parts ≡ b → read_near m (cond b (next_part m r n) (last_seen m r)) (low_part l x) ≡ Some x
+      by_kind true e = of_part (sym f.kinds ∙ e)
+      by_kind false e = let kind : l.tells_parts ≡ false = sym f.kinds ∙ e in made_is x h.place e h.number (h.made kind) (h.recent kind)
 
   -- the number that a telling names
-  pub named_is : (t : Telling) → Told l.bounds.windows l.own k a r.parts t → read_near l (told_reference l a) (low_part m (named_in t)) ≡ Some (named_in t)
+  pub named_is : (t : Telling) → Told l.tells_parts l.bounds.windows l.bounds.tell l.own k a r t → read_near l (told_reference l a) (low_part m (named_in t)) ≡ Some (named_in t)
   named_is t h =
-      let ends = end_within l.bounds.windows a r.parts n now in
+      let within = behind_within l.tells_parts l.bounds.windows l.own a r n f.here.some_own now in
       let own = f.here.some_own in
       let half = some in
-      let low : l.own + cuts a - 1 ≤ named_in t + f.half = omega (arith, h.near, f.late_too, soon) in
-      let high : named_in t < l.own + cuts a - 1 + f.half = omega (arith, h.within, ends, own, half) in
-      let less : named_in t < l.bounds.windows.numbers = omega (arith, h.within, ends, even.numbers f.numbers) in
-      ap (λ b. read_near l (l.own + cond b (cuts a) (transmissions a) - 1) (low_part m (named_in t))) f.here_tells
-      ∙ read_is l f.half m.modulus (l.own + cuts a - 1) (named_in t) f.here_modulus f.there_modulus some low high less
+      let low : l.own + count l.tells_parts a - 1 ≤ named_in t + f.half = omega (arith, h.near, f.enough.told_and_late, soon) in
+      let high : named_in t < l.own + count l.tells_parts a - 1 + f.half = omega (arith, h.within, within, own, half) in
+      let less : named_in t < l.bounds.windows.numbers = omega (arith, h.within, within, count_numbers l.tells_parts l.bounds.windows l.own a even f.numbers) in
+      read_is l f.half m.modulus (l.own + count l.tells_parts a - 1) (named_in t) f.here_modulus f.there_modulus some low high less

@@ -7,16 +7,18 @@ use Rattle.std.proofs.lemmas.List.Elements.{All-take, All-drop, All-nil}
 use Rattle.mt_base.specs.Trace.{Trace, ◌▷◌}
 use Rattle.mt_base.specs.Writing.{joined}
 use Rattle.mt_windows.specs.Sending.Act.{Cut, Resent}
-use Rattle.mt_windows.specs.Sending.{Act, Limits, given, cuts, pieces, piece, waiting, next_piece, transmissions, is_open, lowest, lowest_or_next, passed_over, reach, may_cut, floor_transmission}
+use Rattle.mt_windows.specs.Sending.{Act, Limits, given, cuts, pieces, piece, waiting, next_piece, transmissions, is_open, lowest, lowest_or_next, part_of, passed_over, reach, may_cut, told, floor_transmission}
 use Rattle.mt_windows.proofs.Counts.{pieces_count}
 use Rattle.carrier.specs.Entries.{Entry}
 use Rattle.carrier.specs.Layout.{Layout, Datagram, Carried, Shows}
 use Rattle.carrier.specs.Receiving.{received, floor, owed, peer_window}
 use Rattle.carrier.specs.Sending.{acts, timer, expires, expiry, is_over, is_waiting, is_closed, sends, sends_part}
-use Rattle.carrier.specs.Due.{telling_with, with_part, own_floor, again, fresh, bare, is_pressing, may_send, closes, meant_at}
+use Rattle.carrier.specs.Due.{telling_with, own_floor, again, fresh, bare, is_pressing, may_send, closes, meant_at}
 use Rattle.carrier.specs.LayoutLaw.{shown_of}
 use Rattle.carrier.proofs.links.Invariant.{Even, Flies, FliesLoad, Low, LowFloor, Grown}
 use Rattle.carrier.proofs.links.Numbers.{open_cut, open_unsettled, open_from, lowest_open, lowest_le, lowest_within, below_lowest, passed_open}
+use Rattle.carrier.proofs.links.Noted.{floor_made, floor_recent}
+use Rattle.carrier.proofs.links.Informed.{reach_next}
 use Rattle.carrier.proofs.links.Steps.{stays, cuts_within}
 use Rattle.carrier.proofs.links.Facing.{Alone, nearest_is}
 
@@ -25,7 +27,7 @@ use Rattle.carrier.proofs.links.Facing.{Alone, nearest_is}
 -- a datagram carries an unsettled part again, or the next part, or none
 pub data Outcome (l : Layout) (t : Trace Entry) (d : Datagram) : Type 0 where
   Repeats : (p : ℕ) (b : Bool) → is_open l.bounds.windows (acts l t) p ≡ true → may_send l (acts l t) ≡ true
-      → d ≡ telling_with l t (Some (l.own + lowest_or_next l.bounds.windows (acts l t))) (Some (record { part = l.own + p; transmission = l.own + transmissions (acts l t); bytes = piece l.bounds.windows (acts l t) p })) b → Outcome l t d
+      → d ≡ telling_with l t (Some (own_floor l (acts l t))) (Some (record { part = l.own + p; transmission = l.own + transmissions (acts l t); bytes = piece l.bounds.windows (acts l t) p })) b → Outcome l t d
   Extends : (b : Bool) → may_cut l.bounds.windows l.own (acts l t) (peer_window l t) ≡ true
       → d ≡ telling_with l t None (Some (record { part = l.own + cuts (acts l t); transmission = l.own + transmissions (acts l t); bytes = next_piece l.bounds.windows (acts l t) })) b → Outcome l t d
   Tells : d ≡ telling_with l t None None true → Outcome l t d
@@ -33,8 +35,8 @@ pub data Outcome (l : Layout) (t : Trace Entry) (d : Datagram) : Type 0 where
 some_same : {X : Type 0} (x y : X) → Some x ≡ Some y → y ≡ x
 some_same x y e = cc
 
-pub outcome : (l : Layout) (t : Trace Entry) (at : ℕ) (d : Datagram) → l.tells_parts ≡ true → meant_at l t at ≡ Some d → Outcome l t d
-outcome l t at d tells h = by_closed (is_closed l t || closes l t at) h
+pub outcome : (l : Layout) (t : Trace Entry) (at : ℕ) (d : Datagram) → meant_at l t at ≡ Some d → Outcome l t d
+outcome l t at d h = by_closed (is_closed l t || closes l t at) h
   where
     by_bare : (b : Bool) → cond b (Some (telling_with l t None None true)) None ≡ Some d → Outcome l t d
     by_bare true e = Tells (some_same _ d e)
@@ -45,9 +47,7 @@ outcome l t at d tells h = by_closed (is_closed l t || closes l t at) h
     by_cut false is e = by_bare (is_pressing l (owed l t) at) e
 
     repeats : (p : ℕ) → is_open l.bounds.windows (acts l t) p ≡ true → may_send l (acts l t) ≡ true → Some (again l t p) ≡ Some d → Outcome l t d
-    repeats p is may e =
-        let same : own_floor l (acts l t) ≡ l.own + lowest_or_next l.bounds.windows (acts l t) = ap (λ b. l.own + cond b (lowest_or_next l.bounds.windows (acts l t)) (floor_transmission l.bounds.windows (acts l t))) tells in
-        Repeats p _ is may (some_same _ d e ∙ ap (λ x. with_part l t (Some x) (record { part = l.own + p; transmission = l.own + transmissions (acts l t); bytes = piece l.bounds.windows (acts l t) p })) same)
+    repeats p is may e = Repeats p _ is may (some_same _ d e)
 
     by_over : (b : Bool) → is_some (passed_over l.bounds.windows (acts l t)) && may_send l (acts l t) ≡ b
         → cond b (Some (again l t (unwrap_or (passed_over l.bounds.windows (acts l t)) 0))) (cond (may_cut l.bounds.windows l.own (acts l t) (peer_window l t)) (Some (fresh l t)) (bare l t at)) ≡ Some d → Outcome l t d
@@ -119,12 +119,18 @@ pub record Says (l : Layout) (t : Trace Entry) (d : Datagram) (b : Trace Act) : 
   pub telling : d.telling ≡ l.told (received l t) (floor l t)
   pub grown : Grown l.bounds.windows (acts l t) b
   pub load : FliesLoad l.bounds.windows l.own 0 b d.load
-  pub low : LowFloor l.bounds.windows l.own 0 b d.floor
+  pub low : LowFloor l.tells_parts l.bounds.windows l.own 0 b d.floor
   pub even : Even l.bounds.windows l.own b
   pub moved : Moved l t d b
 
 -- what may be cut
-pub cut_facts : (l : Limits) (first : ℕ) (a : Trace Act) (window : ℕ) → may_cut l first a window ≡ true → (cuts a < lowest_or_next l a + l.window) × (first + cuts a < l.numbers)
+pub record Cuttable (l : Limits) (first : ℕ) (a : Trace Act) : Type 0 where
+  pub window : cuts a < lowest_or_next l a + l.window
+  pub number : first + cuts a < l.numbers
+  pub made : first + transmissions a < l.numbers
+  pub reach_is : reach l a < l.span
+
+pub cut_facts : (l : Limits) (first : ℕ) (a : Trace Act) (window : ℕ) → may_cut l first a window ≡ true → Cuttable l first a
 cut_facts l first a window h =
     let p1 = and_parts (ltb 0 (length (waiting l a)) && ltb (cuts a) (lowest_or_next l a + min l.window window) && ltb (reach l a) l.span && ltb (first + cuts a) l.numbers) (ltb (first + transmissions a) l.numbers) h in
     let p2 = and_parts (ltb 0 (length (waiting l a)) && ltb (cuts a) (lowest_or_next l a + min l.window window) && ltb (reach l a) l.span) (ltb (first + cuts a) l.numbers) p1.0 in
@@ -133,7 +139,9 @@ cut_facts l first a window h =
     let x = p4.1 in
     let y = p2.1 in
     let room : cuts a < lowest_or_next l a + min l.window window = grind (arith, nat_tests) in
-    (omega (arith, room), grind (arith, nat_tests))
+    let z = p1.1 in
+    let w = p3.1 in
+    record { window = omega (arith, room); number = grind (arith, nat_tests); made = grind (arith, nat_tests); reach_is = grind (arith, nat_tests) }
 
 -- so the window has a place
 pub some_window : (l : Limits) (a : Trace Act) → cuts a < lowest_or_next l a + l.window → 0 < l.window
@@ -141,24 +149,59 @@ some_window l a less = omega (arith, less, lowest_within l a)
 
 -- ---- a part that is sent again
 
-resent_grown : (l : Limits) (a : Trace Act) (p : ℕ) → Grown l a (a ▷ Resent p)
-resent_grown l a p = record { more = omega arith; most = omega arith; same = λ q less. refl; settles = λ q. refl; given_is = refl }
+older_part : (a : Trace Act) (j p : ℕ) → j < transmissions a → cond (eqb j (transmissions a)) p (part_of a j) ≡ part_of a j
+older_part a j p less = let other' : eqb j (transmissions a) ≡ false = grind (arith, nat_tests) in ap (λ b. cond b p (part_of a j)) other'
 
-resent_even : (l : Limits) (own : ℕ) (a : Trace Act) (p : ℕ) → Even l own a → Even l own (a ▷ Resent p)
-resent_even l own a p h = record { window = h.window; numbers = h.numbers; bytes = h.bytes; pieces = h.pieces }
+newest_part : (a : Trace Act) (p : ℕ) → cond (eqb (transmissions a) (transmissions a)) p (part_of a (transmissions a)) ≡ p
+newest_part a p = let same : eqb (transmissions a) (transmissions a) ≡ true = grind (arith, nat_tests) in ap (λ b. cond b p (part_of a (transmissions a))) same
+
+resent_grown : (l : Limits) (a : Trace Act) (p : ℕ) → Grown l a (a ▷ Resent p)
+resent_grown l a p = record {
+  more = omega arith;
+  most = omega arith;
+  made_more = omega arith;
+  made_most = omega arith;
+  same = λ q less. refl;
+  stands = λ j less. older_part a j p less;
+  settles = λ q. refl;
+  knows = λ j. refl;
+  given_is = refl;
+}
+
+resent_even : (l : Limits) (own : ℕ) (a : Trace Act) (p : ℕ) → reach l a < l.span → own + transmissions a < l.numbers → Even l own a → Even l own (a ▷ Resent p)
+resent_even l own a p room less h = record {
+  window = h.window;
+  numbers = h.numbers;
+  made = λ le. omega (arith, less);
+  reaches = reach_next (told l a) (transmissions a) l.span room;
+  bytes = h.bytes;
+  pieces = h.pieces;
+}
 
 -- ---- a part that is new
 
 cut_grown : (l : Limits) (own : ℕ) (a : Trace Act) → Grown l a (a ▷ Cut)
-cut_grown l own a = record { more = omega arith; most = omega arith; same = λ q less. piece_before l a q less; settles = λ q. refl; given_is = refl }
+cut_grown l own a = record {
+  more = omega arith;
+  most = omega arith;
+  made_more = omega arith;
+  made_most = omega arith;
+  same = λ q less. piece_before l a q less;
+  stands = λ j less. older_part a j (cuts a) less;
+  settles = λ q. refl;
+  knows = λ j. refl;
+  given_is = refl;
+}
 
 cut_even : (l : Limits) (own : ℕ) (a : Trace Act) (window : ℕ) → may_cut l own a window ≡ true → Even l own a → Even l own (a ▷ Cut)
 cut_even l own a window may h =
     let facts = cut_facts l own a window may in
-    let some = some_window l a facts.0 in
+    let some = some_window l a facts.window in
     record {
-      window = λ q is. open_q q is some facts.0 (cases_lt q (cuts a));
-      numbers = λ less. omega (arith, facts.1);
+      window = λ q is. open_q q is some facts.window (cases_lt q (cuts a));
+      numbers = λ less. omega (arith, facts.number);
+      made = λ less. omega (arith, facts.made);
+      reaches = reach_next (told l a) (transmissions a) l.span facts.reach_is;
       bytes = h.bytes;
       pieces = λ p. cut_pieces l a own p h;
     }
@@ -169,39 +212,77 @@ cut_even l own a window may h =
 
 -- ---- all that a poll sends
 
+-- what may be sent again
+pub may_facts : (l : Layout) (a : Trace Act) → may_send l a ≡ true → (reach l.bounds.windows a < l.bounds.windows.span) × (l.own + transmissions a < l.bounds.windows.numbers)
+may_facts l a may =
+    let both = and_parts (ltb (reach l.bounds.windows a) l.bounds.windows.span) (ltb (l.own + transmissions a) l.bounds.windows.numbers) may in
+    let x = both.0 in
+    let y = both.1 in
+    (grind (arith, nat_tests), grind (arith, nat_tests))
+
+-- the floor that is sent with it
+low_now : (kind : Bool) (l : Limits) (own : ℕ) (a : Trace Act) (p : ℕ) → Even l own a → is_open l a p ≡ true → Low kind l own 0 (a ▷ Resent p) (own + cond kind (lowest_or_next l a) (floor_transmission l a))
+low_now true l own a p h is =
+    let low = lowest_le l a p is in
+    let cut = open_cut l a p is in
+    record {
+      place = lowest_or_next l a;
+      number = refl;
+      cut = λ e. omega (arith, low, cut);
+      below = λ e q less. below_lowest l a q less;
+      near = λ e. omega (arith, cuts_within l own a h);
+      made = λ e. absurd (cc);
+      recent = λ e. absurd (cc);
+    }
+low_now false l own a p h is = record {
+  place = floor_transmission l a;
+  number = refl;
+  cut = λ e. absurd (cc);
+  below = λ e q less. absurd (cc);
+  near = λ e. absurd (cc);
+  made = λ e. omega (arith, floor_made l a);
+  recent = λ e. omega (arith, floor_recent l a);
+}
+
 module _ (l : Layout) (t : Trace Entry) (f : Alone l) (h : Even l.bounds.windows l.own (acts l t)) where
   says_again : (p : ℕ) (b : Bool) → is_open l.bounds.windows (acts l t) p ≡ true → may_send l (acts l t) ≡ true
-      → (let d = telling_with l t (Some (l.own + lowest_or_next l.bounds.windows (acts l t))) (Some (record { part = l.own + p; transmission = l.own + transmissions (acts l t); bytes = piece l.bounds.windows (acts l t) p })) b in
+      → (let d = telling_with l t (Some (own_floor l (acts l t))) (Some (record { part = l.own + p; transmission = l.own + transmissions (acts l t); bytes = piece l.bounds.windows (acts l t) p })) b in
       Says l t d (sends l (acts l t) (l.read (l.spell d))))
   says_again p b is may =
       let a = acts l t in
+      let x = own_floor l a in
       let c : Carried = record { part = l.own + p; transmission = l.own + transmissions a; bytes = piece l.bounds.windows a p } in
-      let shows = f.here.read_back (received l t) (floor l t) b (Some (l.own + lowest_or_next l.bounds.windows a)) (Some c) (h.pieces p) in
+      let shows = f.here.read_back (received l t) (floor l t) b (Some x) (Some c) (h.pieces p) in
       let cut = open_cut l.bounds.windows a p is in
       let near = h.window p is in
       let room = f.one_window in
+      let facts = may_facts l a may in
       let number = nearest_is l f.half (l.own + cuts a) (l.own + p) f.here_modulus f.some_half (omega arith) (omega (arith, cut, f.some_half)) in
       let other' : eqb (l.own + p) (l.own + cuts a) ≡ false = grind (arith, nat_tests) in
       let place : l.own + p - l.own ≡ p = omega arith in
-      let moves : sends l a (Shows (shown_of l (telling_with l t (Some (l.own + lowest_or_next l.bounds.windows a)) (Some c) b))) ≡ a ▷ Resent p =
+      let moves : sends l a (Shows (shown_of l (telling_with l t (Some x) (Some c) b))) ≡ a ▷ Resent p =
       ap (sends_part l a) number ∙ ap (λ x. cond x (a ▷ Cut) (a ▷ Resent (l.own + p - l.own))) other' ∙ ap (λ q. a ▷ Resent q) place in
-      let low = lowest_le l.bounds.windows a p is in
       record {
         shows = shows;
-        fits = f.here.fits (received l t) (floor l t) b (Some (l.own + lowest_or_next l.bounds.windows a)) (Some c) (h.pieces p);
+        fits = f.here.fits (received l t) (floor l t) b (Some x) (Some c) (h.pieces p);
         telling = refl;
         grown = subst (λ s. Grown l.bounds.windows a s) (sym (ap (sends l a) shows ∙ moves)) (resent_grown l.bounds.windows a p);
         load = subst (λ s. Flies l.bounds.windows l.own 0 s c) (sym (ap (sends l a) shows ∙ moves))
-            (record { place = p; number = refl; cut = cut; bytes = refl; near = omega (arith, near) });
-        low = subst (λ s. Low l.bounds.windows l.own 0 s (l.own + lowest_or_next l.bounds.windows a)) (sym (ap (sends l a) shows ∙ moves))
             (record {
-              place = lowest_or_next l.bounds.windows a;
+              place = p;
               number = refl;
-              cut = omega (arith, low, cut);
-              below = λ q less. below_lowest l.bounds.windows a q less;
-              near = omega (arith, cuts_within l.bounds.windows l.own a h);
+              cut = cut;
+              bytes = refl;
+              near = omega (arith, near);
+              sent = transmissions a;
+              sending = refl;
+              made = omega arith;
+              stands = newest_part a p;
+              recent = omega arith;
             });
-        even = subst (λ s. Even l.bounds.windows l.own s) (sym (ap (sends l a) shows ∙ moves)) (resent_even l.bounds.windows l.own a p h);
+        low = subst (λ s. Low l.tells_parts l.bounds.windows l.own 0 s x) (sym (ap (sends l a) shows ∙ moves))
+            (low_now l.tells_parts l.bounds.windows l.own a p h is);
+        even = subst (λ s. Even l.bounds.windows l.own s) (sym (ap (sends l a) shows ∙ moves)) (resent_even l.bounds.windows l.own a p facts.0 facts.1 h);
         moved = Repeated p is may refl (ap (sends l a) shows ∙ moves);
       }
 
@@ -224,7 +305,18 @@ module _ (l : Layout) (t : Trace Entry) (f : Alone l) (h : Even l.bounds.windows
         telling = refl;
         grown = subst (λ s. Grown l.bounds.windows a s) (sym (ap (sends l a) shows ∙ moves)) (cut_grown l.bounds.windows l.own a);
         load = subst (λ s. Flies l.bounds.windows l.own 0 s c) (sym (ap (sends l a) shows ∙ moves))
-            (record { place = cuts a; number = refl; cut = omega arith; bytes = sym (piece_next l.bounds.windows a); near = omega (arith, some_window l.bounds.windows a (cut_facts l.bounds.windows l.own a (peer_window l t) may).0) });
+            (record {
+              place = cuts a;
+              number = refl;
+              cut = omega arith;
+              bytes = sym (piece_next l.bounds.windows a);
+              near = omega (arith, some_window l.bounds.windows a (cut_facts l.bounds.windows l.own a (peer_window l t) may).window);
+              sent = transmissions a;
+              sending = refl;
+              made = omega arith;
+              stands = newest_part a (cuts a);
+              recent = omega arith;
+            });
         low = tt;
         even = subst (λ s. Even l.bounds.windows l.own s) (sym (ap (sends l a) shows ∙ moves)) (cut_even l.bounds.windows l.own a (peer_window l t) may h);
         moved = Extended may refl (ap (sends l a) shows ∙ moves);

@@ -1,5 +1,5 @@
 -- A small world meets what is asked of two joined ends.
-use Rattle.std.proofs.Common.{◌≡◌, ℕ, zero, suc, ◌+◌, ◌-◌, ◌*◌, ◌%◌, ◌<◌, ◌≤◌, Bool, true, false, leb, cond, ◌==◌, slice_get, List, [], ◌∷◌, length, All, Option, Some, None, IfSome, unwrap_or, refl, ap, ◌∙◌, arith, lit<, lit≤}
+use Rattle.std.proofs.Common.{◌≡◌, ℕ, zero, suc, ◌-◌, ◌*◌, ◌%◌, ◌<◌, ◌≤◌, Bool, true, false, leb, cond, ◌==◌, slice_get, List, [], ◌∷◌, length, All, Option, Some, None, IfSome, unwrap_or, refl, ap, ◌∙◌, arith, lit<, lit≤}
 use Rattle.std.proofs.lemmas.Bool.Decides.{nat_tests}
 use Rattle.std.proofs.lemmas.List.Elements.{All-cons, All-nil}
 use Rattle.mt_base.specs.declared.kinds.Role.{Role}
@@ -12,8 +12,8 @@ use Rattle.carrier.specs.Receiving.{shown_in, accepted}
 use Rattle.carrier.specs.Law.{Faithful}
 use Rattle.carrier.specs.LayoutLaw.{IsLayout, IsCarried, shown_of}
 use Rattle.carrier.specs.Joined.{half, Timely}
-use Rattle.carrier.specs.Faithful.{TellsParts}
-use Rattle.carrier.specs.TwoLinks.{Margins, Net}
+use Rattle.carrier.specs.Faithful.{HasRoom}
+use Rattle.carrier.specs.TwoLinks.{Enough, Margins, Net}
 use Rattle.carrier.specs.SmallWorld.{small, small_layouts, small_world, shows_small, spelled_small, bit}
 
 -- ---- the layout
@@ -94,16 +94,13 @@ small_layout own peer some_own some_peer = record {
 small_margins : Margins 2 small_layouts
 small_margins = record {
   layout = layout;
-  tells_parts = tells_parts;
-  tells_last = tells_last;
+  kinds = kinds;
   reads = reads;
   faces = faces;
   bounds = bounds;
   room = 4;
   modulus = modulus;
-  some_window = some_window;
-  two_windows = two_windows;
-  window_and_late = window_and_late;
+  enough = enough;
   numbers = numbers;
 }
   where
@@ -111,13 +108,9 @@ small_margins = record {
     layout Server = small_layout 7 3 (lit≤ tt) (lit≤ tt)
     layout Client = small_layout 3 7 (lit≤ tt) (lit≤ tt)
 
-    tells_parts : (s : Role) → (small_layouts s).tells_parts ≡ true
-    tells_parts Server = refl
-    tells_parts Client = refl
-
-    tells_last : (s : Role) → (small_layouts s).bounds.tell ≡ 0
-    tells_last Server = refl
-    tells_last Client = refl
+    kinds : (s : Role) → (small_layouts s).tells_parts ≡ (small_layouts (other s)).tells_parts
+    kinds Server = refl
+    kinds Client = refl
 
     reads : (s : Role) (d : List ℕ) → (small_layouts s).read d ≡ (small_layouts (other s)).read d
     reads Server d = refl
@@ -135,17 +128,9 @@ small_margins = record {
     modulus Server = refl
     modulus Client = refl
 
-    some_window : (s : Role) → 0 < (small_layouts s).bounds.windows.window
-    some_window Server = lit< tt
-    some_window Client = lit< tt
-
-    two_windows : (s : Role) → 2 * (small_layouts s).bounds.windows.window ≤ 4
-    two_windows Server = lit≤ tt
-    two_windows Client = lit≤ tt
-
-    window_and_late : (s : Role) → (small_layouts s).bounds.windows.window + 2 ≤ 4
-    window_and_late Server = lit≤ tt
-    window_and_late Client = lit≤ tt
+    enough : (s : Role) → Enough 2 4 (small_layouts s).tells_parts (small_layouts s).bounds
+    enough Server = record { some_window = lit< tt; two_windows = lit≤ tt; window_and_late = lit≤ tt; told_and_late = lit≤ tt }
+    enough Client = record { some_window = lit< tt; two_windows = lit≤ tt; window_and_late = lit≤ tt; told_and_late = lit≤ tt }
 
     numbers : (s : Role) → (small_layouts s).own ≤ (small_layouts s).bounds.windows.numbers
     numbers Server = lit≤ tt
@@ -177,16 +162,14 @@ small_net = record { margins = small_margins; faithful = faithful; timely = smal
     faithful Server = server_faithful
     faithful Client = client_faithful
 
-pub small_asks : (s : Role) → TellsParts (small_layouts s)
+pub small_asks : (s : Role) → HasRoom (small_layouts s)
 small_asks Server = record {
   lawful = small_margins.layout Server;
-  tells_parts = refl;
   some_part = omega arith;
   half_window = omega arith;
 }
 small_asks Client = record {
   lawful = small_margins.layout Client;
-  tells_parts = refl;
   some_part = omega arith;
   half_window = omega arith;
 }

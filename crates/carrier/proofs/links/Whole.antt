@@ -7,10 +7,10 @@ use Rattle.mt_base.specs.Trace.{Trace, Start, ◌▷◌}
 use Rattle.carrier.specs.Entries.{Entry, Gave, In, Polled, Pulled, Owed, Posted, Next, given, pulled}
 use Rattle.carrier.specs.Layout.{Layout, Datagram}
 use Rattle.carrier.specs.Law.{Faithful}
-use Rattle.carrier.specs.Receiving.{received, accepted}
+use Rattle.carrier.specs.Receiving.{received}
 use Rattle.carrier.specs.Sending.{acts}
 use Rattle.carrier.specs.Joined.{Step, At, half, SentAgo, MeantAgo, Timely}
-use Rattle.carrier.specs.TwoLinks.{Margins, Reads, AllRead, SettledArrive, PassedWasGiven, PulledWasGiven, LowestArrived, CutsNear}
+use Rattle.carrier.specs.TwoLinks.{Margins, Reads, AllRead, SettledArrive, PassedWasGiven, PulledWasGiven, LowestArrived, CutsNear, SeenWereMade, KnownWereSeen}
 use Rattle.carrier.proofs.links.Facing.{Facing, facing}
 use Rattle.carrier.proofs.links.Ends.{Both, both_start, swap, gives, pulls, same_ends, polls, settled_arrived, passed_given}
 use Rattle.carrier.proofs.links.Comes.{comes, came}
@@ -193,9 +193,17 @@ module _ (late : ℕ) (layouts : Role → Layout) (margins : Margins late layout
   pulled_too w laws h Client = let front = prefix w h Client in pulled_then (layouts Server) (half Server w) (given (half Client w)) front.0 (laws Server) front.1
 
   pub apart : (w : Trace Step) → Ends w → (s : Role) → LowestArrived layouts w s
-  apart w h Server = λ p less. lowest_arrived (layouts Server).bounds.windows (acts (layouts Server) (half Server w)) (accepted (layouts Client) (half Client w)) (length (pulled (half Client w))) p h.out.now less
-  apart w h Client = λ p less. lowest_arrived (layouts Client).bounds.windows (acts (layouts Client) (half Client w)) (accepted (layouts Server) (half Server w)) (length (pulled (half Server w))) p h.back.now less
+  apart w h Server = λ p less. lowest_arrived (layouts Server).tells_parts (layouts Server).bounds.windows (layouts Server).own (acts (layouts Server) (half Server w)) (received (layouts Client) (half Client w)) (length (pulled (half Client w))) p h.out.now less
+  apart w h Client = λ p less. lowest_arrived (layouts Client).tells_parts (layouts Client).bounds.windows (layouts Client).own (acts (layouts Client) (half Client w)) (received (layouts Server) (half Server w)) (length (pulled (half Server w))) p h.back.now less
 
   pub ahead : (w : Trace Step) → Ends w → (s : Role) → CutsNear layouts w s
   ahead w h Server = cut_near late (layouts Server) (layouts Client) front (acts (layouts Server) (half Server w)) (received (layouts Client) (half Client w)) (length (pulled (half Client w))) h.here h.out.now
   ahead w h Client = cut_near late (layouts Client) (layouts Server) rear (acts (layouts Client) (half Client w)) (received (layouts Server) (half Server w)) (length (pulled (half Server w))) h.there h.back.now
+
+  pub seen_made : (w : Trace Step) → Ends w → (s : Role) → SeenWereMade layouts w s
+  seen_made w h Server = h.out.now.seen
+  seen_made w h Client = h.back.now.seen
+
+  pub known_seen : (w : Trace Step) → Ends w → (s : Role) → KnownWereSeen layouts w s
+  known_seen w h Server = h.out.now.known
+  known_seen w h Client = h.back.now.known

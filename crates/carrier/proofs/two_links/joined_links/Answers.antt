@@ -1,4 +1,4 @@
-use Rattle.carrier.proofs.links.Whole.{ends, all_read, arrive, prefix, pulled_too, apart, ahead}
+use Rattle.carrier.proofs.links.Whole.{ends, all_read, arrive, prefix, pulled_too, apart, ahead, seen_made, known_seen}
 use Rattle.carrier.proofs.two_links.joined_links.Goals as goal
 
 pub returns-clause-read : goal.returns-clause-read
@@ -18,3 +18,9 @@ returns-clause-apart c late layouts w net = apart late layouts net.margins w (en
 
 pub returns-clause-ahead : goal.returns-clause-ahead
 returns-clause-ahead c late layouts w net = ahead late layouts net.margins w (ends late layouts net.margins w net.faithful net.timely)
+
+pub returns-clause-seen : goal.returns-clause-seen
+returns-clause-seen c late layouts w net = seen_made late layouts net.margins w (ends late layouts net.margins w net.faithful net.timely)
+
+pub returns-clause-known : goal.returns-clause-known
+returns-clause-known c late layouts w net = known_seen late layouts net.margins w (ends late layouts net.margins w net.faithful net.timely)

@@ -9,8 +9,11 @@ returns-clause-agree c late settings w h s = agrees_in late settings w h s
 
 pub returns-clause-read : goal.returns-clause-read
 returns-clause-read c late settings w h =
-    c.first_links_join.ensures.read late (settings Server).initial (settings Client).initial
-    (min (settings Server).version (settings Client).version) _ (first_link late settings w h)
+    let link = first_link late settings w h in (
+      link.timely,
+      c.first_links_join.ensures.read late (settings Server).initial (settings Client).initial
+          (min (settings Server).version (settings Client).version) _ link,
+    )
 
 pub returns-clause-arrive : goal.returns-clause-arrive
 returns-clause-arrive c late settings w h s =
