@@ -15,6 +15,7 @@ pub mod Pulled
 pub mod Meant
 pub mod Whole
 pub mod Small
+pub mod SmallSeen
 pub mod Informed
 pub mod OneEnd
 pub mod Carries

@@ -39,7 +39,9 @@ pub use perfect_post::PerfectPost;
 pub use reliable::{Carrier, GiveRefusal};
 pub use second_layout::Refusal2;
 pub use state::{LinkState, Reason, Took};
-pub use two_links::{a_small_world, joined_links, sixteen_bits_are_enough};
+pub use two_links::{
+    a_small_world, a_small_world_of_transmissions, joined_links, sixteen_bits_are_enough,
+};
 
 #[cfg(test)]
 mod tests;

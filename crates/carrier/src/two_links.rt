@@ -1,16 +1,17 @@
 //! The law of two joined links.
 
-ghost use Rattle.std.specs.Prelude.{◌≡◌, ◌^◌, ℕ, false, [], ◌∷◌};
+ghost use Rattle.std.specs.Prelude.{◌≡◌, ◌<◌, ◌^◌, ℕ, true, false, [], ◌∷◌};
 ghost use Rattle.mt_base.specs.declared.kinds.Role.{Role};
-ghost use Rattle.mt_base.specs.declared.kinds.Role.TheVariants.{Client};
+ghost use Rattle.mt_base.specs.declared.kinds.Role.TheVariants.{Server, Client};
 ghost use Rattle.mt_base.specs.Trace.{Trace};
 ghost use Rattle.mt_windows.specs.Arrived.{passed};
+ghost use Rattle.mt_windows.specs.Sending.{settled};
 ghost use Rattle.carrier.specs.Faithful.{HasRoom};
 ghost use Rattle.carrier.specs.Joined.{Step, half};
 ghost use Rattle.carrier.specs.Layout.{Bounds, Layout};
 ghost use Rattle.carrier.specs.Receiving.{accepted};
-ghost use Rattle.carrier.specs.SmallWorld.{small_layouts, small_world};
-ghost use Rattle.carrier.specs.TwoLinks.{AllRead, CutsNear, Enough, KnownWereSeen, LowestArrived, Net, PassedWasGiven, PulledWasGiven, SeenWereMade, SettledArrive};
+ghost use Rattle.carrier.specs.SmallWorld.{seen_layouts, seen_world, small_layouts, small_world};
+ghost use Rattle.carrier.specs.TwoLinks.{AllRead, CutsNear, Enough, KnownWereSeen, LowestArrived, Net, PassedWasGiven, PulledWasGiven, SeenWereMade, SettledArrive, acts_of, windows_of};
 
 /// Two ends of a link, whether parts are told or transmissions, joined by a network that loses, copies and reorders datagrams
 /// and makes none, and that brings none too late: each datagram is read as it was meant, whatever
@@ -45,4 +46,14 @@ pub fn a_small_world()
     ensures met { Net 2 small_layouts small_world }
     ensures asks { (s : Role) → HasRoom (small_layouts s) }
     ensures passes { passed (accepted (small_layouts Client) (half Client small_world)) ≡ 10 ∷ 20 ∷ 30 ∷ [] }
+{}
+
+/// Another one whose ends tell transmissions meets the same: the numbers of its parts and of its
+/// transmissions wrap, its datagrams come in another order and twice, and one is lost; and all three
+/// parts are passed.
+pub fn a_small_world_of_transmissions()
+    ensures met { Net 3 seen_layouts seen_world }
+    ensures asks { (s : Role) → HasRoom (seen_layouts s) }
+    ensures passes { passed (accepted (seen_layouts Client) (half Client seen_world)) ≡ 10 ∷ 20 ∷ 30 ∷ [] }
+    ensures settles { (p : ℕ) → p < 3 → settled (windows_of seen_layouts Server) (acts_of seen_layouts seen_world Server) p ≡ true }
 {}
