@@ -15,7 +15,9 @@ fn a_cut_field_keeps_its_place(rt: HostRuntime) {
 #[test]
 fn the_laws_hold(_rt: HostRuntime) {
     joined_links();
+    sixteen_bits_are_enough();
     a_small_world();
+    a_small_world_of_transmissions();
     faithful_links();
     links_close();
 }

@@ -2,6 +2,7 @@ pub mod Told
 pub mod ReadBack
 pub mod Sizes
 pub mod IsLayout
+pub mod SecondLinks
 pub mod Flags
 pub mod Receiving
 pub mod Written

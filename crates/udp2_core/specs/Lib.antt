@@ -5,3 +5,4 @@ pub mod ReceiverView
 pub mod SenderView
 pub mod ContentsView
 pub mod MachineView
+pub mod SecondLink

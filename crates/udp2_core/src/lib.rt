@@ -3,20 +3,28 @@
 //!
 //! Below it stand `mt_windows` with its windows, `udp2_packets` and `coded_vector`, which read and
 //! write these datagrams, and `carrier` with what a link is. What the crates above use is that
-//! [`Udp2Core`] is a `Carrier` whose traces are faithful to the second layout, and that this layout
-//! reads back what it spells ([`second_layout_is_read`]).
+//! [`Udp2Core`] is a `Carrier` whose traces are faithful to the second layout, and that this is a
+//! layout that reads back what it spells ([`second_layout_is_read`]). What such a link sends, tells
+//! and holds back stands in [`second_links_keep`]; of two that are joined what one end pulled is the
+//! beginning of what the other was given ([`second_links_join`]).
 #![tactic(auto)]
 
 mod choice;
 mod contents;
+mod joined;
+mod keeps;
 mod laws;
 mod machine;
 mod numbers;
 mod receiver;
 mod sender;
 
+pub use joined::{pulled_was_given, second_links_join};
+pub use keeps::second_links_keep;
 pub use laws::{one_part_goes_over, second_layout_is_read};
 pub use machine::Udp2Core;
 
+#[cfg(test)]
+mod law_tests;
 #[cfg(test)]
 mod tests;
