@@ -1,5 +1,4 @@
 pub mod States
-pub mod ZeroLemmas
 pub mod Words
 pub mod Pieces
 pub mod OpeningLemmas
@@ -9,4 +8,5 @@ pub mod DataLemmas
 pub mod ToldLemmas
 pub mod WholeLemmas
 pub mod Theorems
+pub mod Parts
 pub mod ByteLemmas

@@ -1,6 +1,6 @@
 -- What reading gives, in the words of the layout and the faults, and what follows of both.
 use Rattle.std.proofs.Common.{◌≡◌, ℕ, ◌+◌, ◌<◌, ◌≤◌, List, [], length, get_or, replicate, Option, Some, None, Result, Ok, Err, refl, ap, subst, arith}
-use Rattle.std.specs.Result.{IfOk, IfErr, IsOkAnd}
+use Rattle.std.specs.Result.{IfOk, IfErr, IsOk, IsOkAnd}
 use Rattle.std.proofs.lemmas.List.{length-replicate}
 use Rattle.std.proofs.lemmas.List.Elements.{All-from_get_or}
 use Rattle.mt_base.specs.Reading.{Left}
@@ -50,11 +50,16 @@ pub written_means : (p q : Packet) → IsPacket p → Spells (spelled p) q → q
 written_means p q is s = one_value meaning q p (spelled p) s (written_spells p is)
 
 -- a writer whose bytes fit does not refuse
-pub never_refused : {P : Type 0} (p : Packet) (out : List ℕ) (first : Spot) (e : NoRoom) → first ≡ record { before = []; after = out } → puts (written_fields p) first ≡ Err e → length (spelled p) ≤ length out → P
+never_refused : {P : Type 0} (p : Packet) (out : List ℕ) (first : Spot) (e : NoRoom) → first ≡ record { before = []; after = out } → puts (written_fields p) first ≡ Err e → length (spelled p) ≤ length out → P
 never_refused p out first e starts refused fits =
     let room : length (spelled p) ≤ length first.after = omega (arith, fits, ap length (ap (λ (x : Spot). x.after) starts)) in
     let done = puts_fit (written_fields p) first room in
     not_both done.0 e done.1 refused
+
+-- a writer that refuses only where a field does not fit is done where all bytes fit
+pub fits_by : (p : Packet) (out : List ℕ) (r : Result ℕ NoRoom) → IfErr r (λ e. puts (written_fields p) (record { before = []; after = out }) ≡ Err e) → length (spelled p) ≤ length out → IsOk r
+fits_by p out (Ok n) refused fits = refl
+fits_by p out (Err e) refused fits = never_refused p out (record { before = []; after = out }) e refl refused fits
 
 -- ---- the same of what a reader answered
 

@@ -7,7 +7,7 @@ use Rattle.mt_base.specs.Writing.{joined}
 use Rattle.ack_vector.specs.Elements.{IsGood}
 use Rattle.udp1_packets.specs.Value.{Extended, Syn, Body, SynBody, DataBody, FecBody, BareBody, Packet}
 
--- ---- the word of flags (section 2.2.2.1)
+-- ---- the word of flags
 
 -- one of these flags is set
 abbrev pub has : ℕ → ℕ → Bool
@@ -55,22 +55,22 @@ abbrev pub block_fields : Option (List ℕ) → List (List ℕ)
 block_fields None = []
 block_fields (Some bytes) = bytes ∷ []
 
--- section 2.2.2.9
+-- an extension's flags, its version, and its hash where it is there
 abbrev pub extension_fields : Option Extended → List (List ℕ)
 extension_fields None = []
 extension_fields (Some e) = big_bytes 2 e.flags ∷ big_bytes 2 e.version ∷ block_fields e.hash
 
--- section 2.2.2.7: the size, the elements, and bytes up to the end of a four-byte unit
+-- a vector: the size, the elements, and bytes up to the end of a four-byte unit
 abbrev pub vector_fields : Option (List ℕ) → List ℕ → List (List ℕ)
 vector_fields None padding = []
 vector_fields (Some elements) padding = big_bytes 2 (length elements) ∷ elements ∷ padding ∷ []
 
--- section 2.2.2.6
+-- an acknowledgement of acknowledgements, where it is there
 abbrev pub aoa_fields : Option ℕ → List (List ℕ)
 aoa_fields None = []
 aoa_fields (Some number) = big_bytes 4 number ∷ []
 
--- sections 2.2.2.5 and 2.2.2.8 for an opening packet, 2.2.2.4 for data, 2.2.2.2 for FEC
+-- an opening packet, data, a packet of forward error correction, or acknowledgements alone
 abbrev pub body_fields : Body → Choice → List (List ℕ)
 body_fields (SynBody s) c =
     big_bytes 4 s.initial ∷ big_bytes 2 s.up ∷ big_bytes 2 s.down
@@ -86,7 +86,7 @@ body_fields (FecBody vector aoa coded start range index bytes) c =
 body_fields (BareBody vector aoa rest) c =
     vector_fields vector c.after_vector ++ (aoa_fields aoa ++ (rest ∷ []))
 
--- the fields of a packet in order (the header is section 2.2.2.1)
+-- the fields of a packet in order, the header first
 abbrev pub fields : Packet → Choice → List (List ℕ)
 fields p c =
     big_bytes 4 p.ack ∷ big_bytes 2 p.window ∷ big_bytes 2 (flags p) ∷ body_fields p.body c
@@ -96,7 +96,7 @@ fields p c =
 abbrev pub IsBytes : List ℕ → Type 0
 IsBytes bytes = All (λ b. b < 256) bytes
 
--- section 2.2.2.5: the MTUs are 1132 to 1232
+-- the MTUs are 1132 to 1232
 abbrev pub IsMtu : ℕ → Type 0
 IsMtu mtu = (1132 ≤ mtu) × (mtu ≤ 1232)
 

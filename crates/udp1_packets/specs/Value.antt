@@ -1,7 +1,7 @@
 -- Packets of the first layout as values of lists and numbers (MS-RDPEUDP section 2.2).
 use Rattle.std.specs.Prelude.{ℕ, Bool, List, Option}
 
--- the extension of an opening packet (section 2.2.2.9): flags, version, and a hash of a cookie
+-- the extension of an opening packet: flags, version, and a hash of a cookie
 pub record Extended : Type 0 where
   pub flags : ℕ
   pub version : ℕ

@@ -1,4 +1,4 @@
-//! The flags of a packet's header (MS-RDPEUDP section 2.2.2.1).
+//! The flags of a packet's header (MS-RDPEUDP section 2.2).
 
 ghost use Rattle.std.specs.Prelude.{◌≡◌};
 ghost use Rattle.udp1_packets.specs.Layout.{has};

@@ -1,6 +1,6 @@
 //! Packets of the first layout, with their parts borrowed from the bytes that they were read from.
 
-/// A packet (MS-RDPEUDP section 2.2.2.1, the header).
+/// A packet, its header first (MS-RDPEUDP section 2.2).
 #[derive(Clone, Copy, Debug)]
 pub struct Packet1<'a> {
     /// snSourceAck.
@@ -12,13 +12,13 @@ pub struct Packet1<'a> {
     pub body: Body1<'a>,
 }
 
-/// What stands behind the header. `vector` is the elements of an acknowledgement vector (section
-/// 2.2.2.7), `aoa` an acknowledgement of acknowledgements (section 2.2.2.6).
+/// What stands behind the header. `vector` is the elements of an acknowledgement vector, `aoa` an
+/// acknowledgement of acknowledgements.
 #[derive(Clone, Copy, Debug)]
 pub enum Body1<'a> {
     /// A connection is opened, or its opening answered.
     Syn(Syn1<'a>),
-    /// A source packet (section 2.2.2.4).
+    /// A source packet.
     Data {
         vector: Option<&'a [u8]>,
         aoa: Option<u32>,
@@ -26,7 +26,7 @@ pub enum Body1<'a> {
         start: u32,
         bytes: &'a [u8],
     },
-    /// A packet of forward error correction (section 2.2.2.2).
+    /// A packet of forward error correction.
     Fec {
         vector: Option<&'a [u8]>,
         aoa: Option<u32>,
@@ -44,7 +44,7 @@ pub enum Body1<'a> {
     },
 }
 
-/// The opening of a connection (section 2.2.2.5).
+/// The opening of a connection.
 #[derive(Clone, Copy, Debug)]
 pub struct Syn1<'a> {
     /// Whether it answers an opening.
@@ -55,14 +55,14 @@ pub struct Syn1<'a> {
     pub up: u16,
     /// uDownStreamMtu, 1132 to 1232.
     pub down: u16,
-    /// uCorrelationId and the reserved bytes behind it, 32 bytes (section 2.2.2.8).
+    /// uCorrelationId and the reserved bytes behind it, 32 bytes.
     pub correlation: Option<&'a [u8]>,
     pub extension: Option<Extension<'a>>,
     /// How many zeros follow up to the end.
     pub padding: usize,
 }
 
-/// The extension of an opening (section 2.2.2.9).
+/// The extension of an opening.
 #[derive(Clone, Copy, Debug)]
 pub struct Extension<'a> {
     /// uSynExFlags; bit 0x0001 says that the version is valid.
