@@ -14,3 +14,4 @@ pub mod SmallWorld
 pub mod Perfect
 pub mod PerfectThin
 pub mod PerfectView
+pub mod ClockView

@@ -14,9 +14,11 @@
 #![tactic(auto)]
 
 mod byte_queue;
+mod clock;
 mod faithful;
 mod first_layout;
 mod laws;
+mod limits;
 mod lossy;
 mod perfect_carrier;
 mod perfect_datagram;
@@ -28,11 +30,13 @@ mod second_layout;
 mod state;
 mod two_links;
 
+pub use clock::Clock;
 pub use faithful::{faithful_links, links_close};
 pub use first_layout::Refusal1;
 pub use laws::{
     perfect_bytes_arrive, perfect_bytes_in_order, perfect_parts_arrive, perfect_parts_in_order,
 };
+pub use limits::{EXPIRIES, WITH_TELLING};
 pub use lossy::{Post, PostRefusal};
 pub use perfect_carrier::PerfectCarrier;
 pub use perfect_post::PerfectPost;
