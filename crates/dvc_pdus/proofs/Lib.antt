@@ -8,6 +8,5 @@ pub mod SpelledReads
 pub mod Refusals
 pub mod Decisions
 pub mod Theorems
-pub mod Spaces
 pub mod SyncWriting
 pub mod SyncMoves

@@ -7,12 +7,13 @@ use Rattle.std.proofs.lemmas.Grind.{flat_map-append}
 use Rattle.std.proofs.lemmas.Bool.{cases_eq, ne_eqb, eq-eqb}
 use Rattle.mt_base.specs.declared.kinds.Kind.{Kind}
 use Rattle.mt_base.specs.declared.kinds.Kind.TheVariants.{Reliable, Lossy}
-use Rattle.mt_base.specs.Writing.{Spot, puts, then_put, joined}
-use Rattle.mt_base.proofs.Fill.{puts-append, joined-append}
-use Rattle.mt_base.specs.Space.{Space, passes, then_pass}
-use Rattle.dvc_pdus.specs.Moves.{channels_length, channel_lengths}
+use Rattle.mt_base.specs.Writing.{joined}
+use Rattle.mt_base.specs.Filling.{Filling, fills, then_fill}
+use Rattle.mt_base.proofs.Fill.{joined-append}
+use Rattle.mt_base.proofs.Filled.{fills-append}
+use Rattle.dvc_pdus.specs.Moves.{channels_length}
 use Rattle.dvc_pdus.specs.Value.{IsList, list_fields, lists_fields, list_to, lists_of}
-use Rattle.dvc_pdus.proofs.SyncWriting.{id_lengths, list_length, passes_append, map_length_append}
+use Rattle.dvc_pdus.proofs.SyncWriting.{list_length}
 
 above : (ids : List ℕ) → length ids ≢ 0 → 0 < length ids
 above ids some = omega arith
@@ -25,19 +26,12 @@ channels_none kind ids none = rw (eq-eqb (length ids) 0 none) refl
 pub channels_some : (kind : Kind) (ids : List ℕ) → 0 < length ids → lists_fields (list_to kind ids) ≡ list_fields (record { kind = kind; ids = ids })
 channels_some kind ids some = rw (ne_eqb (length ids) 0 (λ e. omega arith)) (append-nil (list_fields (record { kind = kind; ids = ids })))
 
--- how many bytes it has, and how many each of its fields
+-- how many bytes it has
 channels_bytes : (kind : Kind) (ids : List ℕ) → length (joined (lists_fields (list_to kind ids))) ≡ channels_length ids
 channels_bytes kind ids =
     elim (cases_eq (length ids) 0) [
       | inl none ↦ ap (λ fs. length (joined fs)) (channels_none kind ids none) ∙ rw (eq-eqb (length ids) 0 none) refl
       | inr some ↦ ap (λ fs. length (joined fs)) (channels_some kind ids (above ids some)) ∙ list_length (record { kind = kind; ids = ids }) ∙ rw (ne_eqb (length ids) 0 some) refl
-    ]
-
-channels_lengths : (kind : Kind) (ids : List ℕ) → map length (lists_fields (list_to kind ids)) ≡ channel_lengths ids
-channels_lengths kind ids =
-    elim (cases_eq (length ids) 0) [
-      | inl none ↦ ap (map length) (channels_none kind ids none) ∙ rw (eq-eqb (length ids) 0 none) refl
-      | inr some ↦ ap (map length) (channels_some kind ids (above ids some)) ∙ ap (λ ns. 4 ∷ 2 ∷ ns) (id_lengths ids) ∙ rw (ne_eqb (length ids) 0 some) refl
     ]
 
 -- the fields of both lists
@@ -52,19 +46,10 @@ both_bytes reliable lossy =
     ap (λ fs. length (joined fs)) (both_fields reliable lossy) ∙ ap length (joined-append r l) ∙ length-append (joined r) (joined l)
     ∙ ap (λ n. n + length (joined l)) (channels_bytes Reliable reliable) ∙ ap (λ n. channels_length reliable + n) (channels_bytes Lossy lossy)
 
-pub both_passed : (reliable lossy : List ℕ) (s : Space)
-    → passes (map length (lists_fields (lists_of reliable lossy))) s
-    ≡ then_pass (passes (channel_lengths reliable) s) (passes (channel_lengths lossy))
-both_passed reliable lossy s =
-    let r = lists_fields (list_to Reliable reliable) in
-    let l = lists_fields (list_to Lossy lossy) in
-    ap (λ fs. passes (map length fs) s) (both_fields reliable lossy) ∙ ap (λ ns. passes ns s) (map_length_append r l) ∙ passes_append (map length r) (map length l) s
-    ∙ ap (λ ns. then_pass (passes ns s) (passes (map length l))) (channels_lengths Reliable reliable) ∙ ap (λ ns. then_pass (passes (channel_lengths reliable) s) (passes ns)) (channels_lengths Lossy lossy)
-
-pub both_put : (reliable lossy : List ℕ) (s : Spot)
-    → puts (lists_fields (lists_of reliable lossy)) s ≡ then_put (puts (lists_fields (list_to Reliable reliable)) s) (puts (lists_fields (list_to Lossy lossy)))
-both_put reliable lossy s =
-    ap (λ fs. puts fs s) (both_fields reliable lossy) ∙ puts-append (lists_fields (list_to Reliable reliable)) (lists_fields (list_to Lossy lossy)) s
+pub both_filled : (reliable lossy : List ℕ) (s : Filling)
+    → fills (lists_fields (lists_of reliable lossy)) s ≡ then_fill (fills (lists_fields (list_to Reliable reliable)) s) (fills (lists_fields (list_to Lossy lossy)))
+both_filled reliable lossy s =
+    ap (λ fs. fills fs s) (both_fields reliable lossy) ∙ fills-append (lists_fields (list_to Reliable reliable)) (lists_fields (list_to Lossy lossy)) s
 
 -- what holds of two joined lists holds of each
 all_front : {A : Type 0} (P : A → Type 0) (xs ys : List A) → All P (xs ++ ys) → All P xs

@@ -5,3 +5,4 @@ pub mod Views
 pub mod Layout
 pub mod Faults
 pub mod Moves
+pub mod Names

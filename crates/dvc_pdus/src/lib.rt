@@ -13,9 +13,7 @@ mod lists;
 mod moves;
 mod pdu;
 mod read;
-mod room;
 mod sync;
-mod sync_room;
 mod sync_write;
 mod write;
 

@@ -1,19 +1,16 @@
 //! Writing the Soft-Sync request that moves channels (MS-RDPEDYC section 2.2.5.1).
 
-ghost use Rattle.std.specs.Prelude.{◌≡◌, ◌+◌, ◌<◌, ◌≤◌, ◌^◌, ◌++◌, [], length, map, drop, IfOk, IfErr, OnOk, OnErr, Err};
-ghost use Rattle.mt_base.specs.Writing.{Writes, puts, joined};
-ghost use Rattle.mt_base.specs.OutView.{spot};
+ghost use Rattle.std.specs.Prelude.{◌≡◌, ◌+◌, ◌<◌, ◌≤◌, ◌^◌, ◌++◌, [], length, drop, IfOk, IfErr, OnErr, Err};
+ghost use Rattle.mt_base.specs.Filling.{Fills, fills};
+ghost use Rattle.mt_base.specs.Writing.{puts, joined};
 ghost use Rattle.mt_base.specs.declared.kinds.Kind.{Kind};
 ghost use Rattle.mt_base.specs.declared.kinds.Kind.TheVariants.{Reliable, Lossy};
 ghost use Rattle.mt_base.specs.declared.kinds.Role.TheVariants.{Server};
-ghost use Rattle.mt_base.specs.Space.{Passes, passes};
-ghost use Rattle.mt_base.specs.RoomView.{space};
-ghost use Rattle.dvc_pdus.specs.Moves.{channels_length, channel_lengths};
+ghost use Rattle.dvc_pdus.specs.Moves.{channels_length};
 ghost use Rattle.dvc_pdus.specs.Value.{Fits, fields, spelled, id_fields, lists_fields, list_to, lists_of, sync_length, sync_request};
 
-use crate::sync_room::{pass_list, pass_sync};
 use crate::sync_write::{put_front, tunnel_type};
-use mt_base::{Kind, NoRoom, Out, Room};
+use mt_base::{Kind, NoRoom, Place, Spell};
 
 /// The flags TCP_FLUSHED and CHANNEL_LIST_PRESENT.
 const FLAGS: u16 = 0x03;
@@ -26,76 +23,48 @@ fn list_count(reliable: &[u32], lossy: &[u32]) -> u16
 }
 
 /// The bytes of the list of these channels, where there are some.
-
 fn channels_length(ids: &[u32]) -> usize
     ensures { result ≡ channels_length ids.now }
 {
     if ids.is_empty() { 0 } else { 6 + 4 * ids.len() }
 }
 
-/// Passes over the list of these channels, where there are some.
-fn pass_channels(room: &mut Room, ids: &[u32]) -> Result<(), NoRoom>
-    ensures { Passes (space room.new) result (passes (channel_lengths ids.now) (space room.old)) }
-{
-    if ids.is_empty() {
-        return Ok(());
-    }
-    pass_list(room, ids.len())
-}
-
-/// Passes over the lists of the request.
-#[tactic(auto, using(crate::proofs::SyncMoves::both_passed))]
-fn pass_lists(room: &mut Room, reliable: &[u32], lossy: &[u32]) -> Result<(), NoRoom>
-    ensures { Passes (space room.new) result (passes (map length (lists_fields (lists_of reliable.now lossy.now))) (space room.old)) }
-{
-    pass_channels(room, reliable)?;
-    pass_channels(room, lossy)
-}
-
-/// Passes over the fields of the request.
-fn pass_request(room: &mut Room, reliable: &[u32], lossy: &[u32]) -> Result<(), NoRoom>
-    ensures { Passes (space room.new) result (passes (map length (fields (sync_request reliable.now lossy.now))) (space room.old)) }
-{
-    pass_sync(room)?;
-    pass_lists(room, reliable, lossy)
-}
-
-/// Writes channel ids.
-fn put_each(out: &mut Out<'_>, ids: &[u32]) -> Result<(), NoRoom>
-    ensures same { out.new.bytes.ghost_name ≡ out.old.bytes.ghost_name }
-    ensures written { Writes (spot out.new) result (puts (id_fields ids.now) (spot out.old)) }
+/// Puts channel ids.
+fn put_each<P: Place>(place: &mut P, ids: &[u32]) -> Result<(), NoRoom>
+    ensures same { P.lent place.new ≡ P.lent place.old }
+    ensures filled { Fills (P.filling place.new) result (fills (id_fields ids.now) (P.filling place.old)) }
 {
     for id in ids.iter() {
-        out.put_u32_le(*id)?;
+        place.put_u32_le(*id)?;
     }
     Ok(())
 }
 
-/// Writes the list of these channels, where there are some.
+/// Puts the list of these channels, where there are some.
 #[tactic(auto, using(crate::proofs::SyncMoves::channels_none, crate::proofs::SyncMoves::channels_some))]
-fn put_channels(out: &mut Out<'_>, kind: Kind, ids: &[u32]) -> Result<(), NoRoom>
+fn put_channels<P: Place>(place: &mut P, kind: Kind, ids: &[u32]) -> Result<(), NoRoom>
     requires { length ids.now < 2 ^ 16 }
-    ensures same { out.new.bytes.ghost_name ≡ out.old.bytes.ghost_name }
-    ensures written { Writes (spot out.new) result (puts (lists_fields (list_to kind ids.now)) (spot out.old)) }
+    ensures same { P.lent place.new ≡ P.lent place.old }
+    ensures filled { Fills (P.filling place.new) result (fills (lists_fields (list_to kind ids.now)) (P.filling place.old)) }
 {
     if ids.is_empty() {
         return Ok(());
     }
-    out.put_u32_le(tunnel_type(kind))?;
-    out.put_u16_le(ids.len() as u16)?;
-    put_each(out, ids)
+    place.put_u32_le(tunnel_type(kind))?;
+    place.put_u16_le(ids.len() as u16)?;
+    put_each(place, ids)
 }
 
-/// Writes the lists of the request.
-#[tactic(auto, using(crate::proofs::SyncMoves::both_put))]
-fn put_lists(out: &mut Out<'_>, reliable: &[u32], lossy: &[u32]) -> Result<(), NoRoom>
+/// Puts the lists of the request.
+#[tactic(auto, using(crate::proofs::SyncMoves::both_filled))]
+fn put_lists<P: Place>(place: &mut P, reliable: &[u32], lossy: &[u32]) -> Result<(), NoRoom>
     requires reliable { length reliable.now < 2 ^ 16 }
     requires lossy { length lossy.now < 2 ^ 16 }
-    ensures same { out.new.bytes.ghost_name ≡ out.old.bytes.ghost_name }
-    ensures written { Writes (spot out.new) result (puts (lists_fields (lists_of reliable.now lossy.now)) (spot out.old)) }
+    ensures same { P.lent place.new ≡ P.lent place.old }
+    ensures filled { Fills (P.filling place.new) result (fills (lists_fields (lists_of reliable.now lossy.now)) (P.filling place.old)) }
 {
-    put_channels(out, Kind::Reliable, reliable)?;
-    put_channels(out, Kind::Lossy, lossy)
+    put_channels(place, Kind::Reliable, reliable)?;
+    put_channels(place, Kind::Lossy, lossy)
 }
 
 /// The Length that the request tells.
@@ -107,24 +76,25 @@ fn sync_length(reliable: &[u32], lossy: &[u32]) -> usize
     8 + channels_length(reliable) + channels_length(lossy)
 }
 
-/// Writes the fields of the request in order.
-#[tactic(auto, using(crate::proofs::SyncMoves::short_lists))]
-fn put_request(out: &mut Out<'_>, reliable: &[u32], lossy: &[u32]) -> Result<(), NoRoom>
-    requires { Fits Server (sync_request reliable.now lossy.now) }
-    ensures same { out.new.bytes.ghost_name ≡ out.old.bytes.ghost_name }
-    ensures written { Writes (spot out.new) result (puts (fields (sync_request reliable.now lossy.now)) (spot out.old)) }
-{
-    let tunnels = list_count(reliable, lossy);
-    put_front(out, sync_length(reliable, lossy), FLAGS, tunnels)?;
-    put_lists(out, reliable, lossy)
+/// The request that moves these channels to a reliable and to a lossy tunnel.
+#[derive(Clone, Copy)]
+struct Moves<'a> {
+    reliable: &'a [u32],
+    lossy: &'a [u32],
 }
 
-/// Whether all fields of the request find a place.
-fn find_room(reliable: &[u32], lossy: &[u32], out: &[u8]) -> Result<(), NoRoom>
-    ensures found { OnOk result (length (joined (fields (sync_request reliable.now lossy.now))) ≤ length out.now) }
-    ensures refused { IfErr result (λ e. puts (fields (sync_request reliable.now lossy.now)) (record { before = []; after = out.now }) ≡ Err e) }
-{
-    pass_request(&mut Room::new(out.len()), reliable, lossy)
+impl Spell for Moves<'_> {
+    ghost fields = { λ moves. fields (sync_request moves.reliable.now moves.lossy.now) };
+
+    ghost fits = { λ moves. Fits Server (sync_request moves.reliable.now moves.lossy.now) };
+
+    #[tactic(auto, using(crate::proofs::SyncMoves::short_lists))]
+    fn spell<P: Place>(&self, place: &mut P) -> Result<(), NoRoom> {
+        let tunnels = list_count(self.reliable, self.lossy);
+        let length = sync_length(self.reliable, self.lossy);
+        put_front(place, length, FLAGS, tunnels)?;
+        put_lists(place, self.reliable, self.lossy)
+    }
 }
 
 /// Writes at the front of `out` the Soft-Sync request that moves channels to a reliable and to a
@@ -140,8 +110,5 @@ pub fn write_sync(reliable: &[u32], lossy: &[u32], out: &mut [u8]) -> Result<usi
     ensures no_room { IfErr result (λ e. puts (fields (sync_request reliable.now lossy.now)) (record { before = []; after = out.old }) ≡ Err e) }
     ensures unchanged { OnErr result (out.new ≡ out.old) }
 {
-    find_room(reliable, lossy, out)?;
-    let mut place = Out::new(out);
-    put_request(&mut place, reliable, lossy)?;
-    Ok(place.at())
+    mt_base::write(&Moves { reliable, lossy }, out)
 }

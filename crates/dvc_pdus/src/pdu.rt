@@ -1,7 +1,11 @@
 //! The PDUs, and why bytes are none.
 
+ghost use Rattle.std.specs.Prelude.{◌≡◌};
+ghost use Rattle.dvc_pdus.specs.Names.{dvc_name, dvc_place};
+
 use crate::lists::{SyncLists, SyncTypes};
 use mt_base::Short;
+use std::fmt;
 
 /// A channel PDU. Its parts are borrowed from the bytes that it was read from.
 #[derive(Clone, Copy, Debug, PartialEq, Eq)]
@@ -102,5 +106,59 @@ impl From<Short> for DvcRefusal {
 
     fn from(short: Short) -> DvcRefusal {
         DvcRefusal::Short(short)
+    }
+}
+
+impl DvcRefusal {
+    /// The name of the refusal, spelled as its variant.
+    pub fn name(&self) -> &'static str
+        ensures { result.now ≡ dvc_name self.now }
+    {
+        match self {
+            DvcRefusal::Short(_) => "Short",
+            DvcRefusal::TooLong { .. } => "TooLong",
+            DvcRefusal::UnknownCommand { .. } => "UnknownCommand",
+            DvcRefusal::BadCbId { .. } => "BadCbId",
+            DvcRefusal::BadLen { .. } => "BadLen",
+            DvcRefusal::NameNotEnded { .. } => "NameNotEnded",
+            DvcRefusal::BadName { .. } => "BadName",
+            DvcRefusal::LengthTooSmall { .. } => "LengthTooSmall",
+            DvcRefusal::SyncLength { .. } => "SyncLength",
+            DvcRefusal::BadTunnelType { .. } => "BadTunnelType",
+            DvcRefusal::Trailing { .. } => "Trailing",
+        }
+    }
+
+    /// The byte offset of the fault; of a field that is cut short, where it begins.
+    pub fn place(&self) -> usize
+        ensures { result ≡ dvc_place self.now }
+    {
+        match *self {
+            DvcRefusal::Short(Short { at, .. })
+            | DvcRefusal::TooLong { at }
+            | DvcRefusal::UnknownCommand { at }
+            | DvcRefusal::BadCbId { at }
+            | DvcRefusal::BadLen { at }
+            | DvcRefusal::NameNotEnded { at }
+            | DvcRefusal::BadName { at }
+            | DvcRefusal::LengthTooSmall { at }
+            | DvcRefusal::SyncLength { at }
+            | DvcRefusal::BadTunnelType { at }
+            | DvcRefusal::Trailing { at } => at,
+        }
+    }
+}
+
+/// `NAME at PLACE`.
+impl fmt::Display for DvcRefusal {
+    ghost use Rattle.std.specs.Prelude.{Some};
+    ghost use Rattle.dvc_pdus.specs.Names.{dvc_text};
+
+    ghost output = { λ r. Some (dvc_text r) };
+
+    fn fmt<W: fmt::Write>(&self, f: &mut fmt::Formatter<W>) -> fmt::Result {
+        let name = self.name();
+        let place = self.place();
+        write!(f, "{name} at {place}")
     }
 }

@@ -2,8 +2,8 @@
 
 ghost use Rattle.std.specs.Prelude.{◌≡◌, ◌+◌, ◌<◌, ◌^◌, ◌++◌, ◌∷◌, [], length, drop, All, IfOk, IfErr, OnOk, OnErr, Err};
 ghost use Rattle.byteorder.specs.Endian.{little_bytes};
-ghost use Rattle.mt_base.specs.Writing.{Writes, put, puts, joined};
-ghost use Rattle.mt_base.specs.OutView.{spot};
+ghost use Rattle.mt_base.specs.Filling.{Fills, fills};
+ghost use Rattle.mt_base.specs.Writing.{joined};
 ghost use Rattle.mt_base.specs.declared.kinds.Role.{Role};
 ghost use Rattle.mt_base.specs.declared.kinds.Role.TheVariants.{Server};
 ghost use Rattle.mt_base.specs.declared.kinds.Kind.TheVariants.{Reliable, Lossy};
@@ -12,7 +12,7 @@ ghost use Rattle.dvc_pdus.specs.ListViews.{ids_left, list_of, lists_left, types_
 
 use crate::command::{SYNC_REQUEST, SYNC_RESPONSE};
 use crate::lists::{Ids, SyncList, SyncLists, SyncTypes};
-use mt_base::{Kind, NoRoom, Out};
+use mt_base::{Kind, NoRoom, Place};
 
 /// The code of a kind of tunnel.
 pub(crate) fn tunnel_type(kind: Kind) -> u32
@@ -36,92 +36,92 @@ fn lists_length(lists: SyncLists<'_>) -> usize
     length
 }
 
-/// Writes channel ids.
-fn put_ids(out: &mut Out<'_>, ids: Ids<'_>) -> Result<(), NoRoom>
-    ensures same { out.new.bytes.ghost_name ≡ out.old.bytes.ghost_name }
-    ensures written { Writes (spot out.new) result (puts (id_fields (ids_left ids.entry)) (spot out.old)) }
+/// Puts channel ids.
+fn put_ids<P: Place>(place: &mut P, ids: Ids<'_>) -> Result<(), NoRoom>
+    ensures same { P.lent place.new ≡ P.lent place.old }
+    ensures filled { Fills (P.filling place.new) result (fills (id_fields (ids_left ids.entry)) (P.filling place.old)) }
 {
     for id in ids {
-        out.put_u32_le(id)?;
+        place.put_u32_le(id)?;
     }
     Ok(())
 }
 
-/// Writes a list of channels.
-fn put_list(out: &mut Out<'_>, list: SyncList<'_>) -> Result<(), NoRoom>
+/// Puts a list of channels.
+fn put_list<P: Place>(place: &mut P, list: SyncList<'_>) -> Result<(), NoRoom>
     requires { IsList (list_of list) }
-    ensures same { out.new.bytes.ghost_name ≡ out.old.bytes.ghost_name }
-    ensures written { Writes (spot out.new) result (puts (list_fields (list_of list.entry)) (spot out.old)) }
+    ensures same { P.lent place.new ≡ P.lent place.old }
+    ensures filled { Fills (P.filling place.new) result (fills (list_fields (list_of list.entry)) (P.filling place.old)) }
 {
-    out.put_u32_le(tunnel_type(list.kind))?;
-    out.put_u16_le(list.ids.len() as u16)?;
-    put_ids(out, list.ids)
+    place.put_u32_le(tunnel_type(list.kind))?;
+    place.put_u16_le(list.ids.len() as u16)?;
+    put_ids(place, list.ids)
 }
 
-/// Writes lists of channels.
-fn put_lists(out: &mut Out<'_>, lists: SyncLists<'_>) -> Result<(), NoRoom>
+/// Puts lists of channels.
+fn put_lists<P: Place>(place: &mut P, lists: SyncLists<'_>) -> Result<(), NoRoom>
     requires { All IsList (lists_left lists) }
-    ensures same { out.new.bytes.ghost_name ≡ out.old.bytes.ghost_name }
-    ensures written { Writes (spot out.new) result (puts (lists_fields (lists_left lists.entry)) (spot out.old)) }
+    ensures same { P.lent place.new ≡ P.lent place.old }
+    ensures filled { Fills (P.filling place.new) result (fills (lists_fields (lists_left lists.entry)) (P.filling place.old)) }
 {
     for list in lists {
-        put_list(out, list)?;
+        put_list(place, list)?;
     }
     Ok(())
 }
 
-/// Writes the fields of a request in order.
-pub(crate) fn put_request(
-    out: &mut Out<'_>,
+/// Puts the fields of a request in order.
+pub(crate) fn put_request<P: Place>(
+    place: &mut P,
     flags: u16,
     tunnels: u16,
     lists: SyncLists<'_>,
 ) -> Result<(), NoRoom>
     requires { (from : Role) × Fits from (SyncRequest flags tunnels (lists_left lists)) }
-    ensures same { out.new.bytes.ghost_name ≡ out.old.bytes.ghost_name }
-    ensures written { Writes (spot out.new) result (puts (fields (SyncRequest flags tunnels (lists_left lists.entry))) (spot out.old)) }
+    ensures same { P.lent place.new ≡ P.lent place.old }
+    ensures filled { Fills (P.filling place.new) result (fills (fields (SyncRequest flags tunnels (lists_left lists.entry))) (P.filling place.old)) }
 {
-    put_front(out, 8 + lists_length(lists), flags, tunnels)?;
-    put_lists(out, lists)
+    put_front(place, 8 + lists_length(lists), flags, tunnels)?;
+    put_lists(place, lists)
 }
 
-/// Writes what stands before the lists of a request, of which its Length counts so many bytes.
-pub(crate) fn put_front(
-    out: &mut Out<'_>,
+/// Puts what stands before the lists of a request, of which its Length counts so many bytes.
+pub(crate) fn put_front<P: Place>(
+    place: &mut P,
     length: usize,
     flags: u16,
     tunnels: u16,
 ) -> Result<(), NoRoom>
     requires { length < 2 ^ 32 }
-    ensures same { out.new.bytes.ghost_name ≡ out.old.bytes.ghost_name }
-    ensures written { Writes (spot out.new) result (puts ((0x80 ∷ []) ∷ (0 ∷ []) ∷ little_bytes 4 length ∷ little_bytes 2 flags ∷ little_bytes 2 tunnels ∷ []) (spot out.old)) }
+    ensures same { P.lent place.new ≡ P.lent place.old }
+    ensures filled { Fills (P.filling place.new) result (fills ((0x80 ∷ []) ∷ (0 ∷ []) ∷ little_bytes 4 length ∷ little_bytes 2 flags ∷ little_bytes 2 tunnels ∷ []) (P.filling place.old)) }
 {
-    out.put(&[SYNC_REQUEST * 16])?;
-    out.put(&[0])?;
-    out.put_u32_le(length as u32)?;
-    out.put_u16_le(flags)?;
-    out.put_u16_le(tunnels)
+    place.put(&[SYNC_REQUEST * 16])?;
+    place.put(&[0])?;
+    place.put_u32_le(length as u32)?;
+    place.put_u16_le(flags)?;
+    place.put_u16_le(tunnels)
 }
 
-/// Writes the types of tunnels.
-fn put_types(out: &mut Out<'_>, types: SyncTypes<'_>) -> Result<(), NoRoom>
-    ensures same { out.new.bytes.ghost_name ≡ out.old.bytes.ghost_name }
-    ensures written { Writes (spot out.new) result (puts (type_fields (types_left types.entry)) (spot out.old)) }
+/// Puts the types of tunnels.
+fn put_types<P: Place>(place: &mut P, types: SyncTypes<'_>) -> Result<(), NoRoom>
+    ensures same { P.lent place.new ≡ P.lent place.old }
+    ensures filled { Fills (P.filling place.new) result (fills (type_fields (types_left types.entry)) (P.filling place.old)) }
 {
     for kind in types {
-        out.put_u32_le(tunnel_type(kind))?;
+        place.put_u32_le(tunnel_type(kind))?;
     }
     Ok(())
 }
 
-/// Writes the fields of a response in order.
-pub(crate) fn put_response(out: &mut Out<'_>, types: SyncTypes<'_>) -> Result<(), NoRoom>
+/// Puts the fields of a response in order.
+pub(crate) fn put_response<P: Place>(place: &mut P, types: SyncTypes<'_>) -> Result<(), NoRoom>
     requires { (from : Role) × Fits from (SyncResponse (types_left types)) }
-    ensures same { out.new.bytes.ghost_name ≡ out.old.bytes.ghost_name }
-    ensures written { Writes (spot out.new) result (puts (fields (SyncResponse (types_left types.entry))) (spot out.old)) }
+    ensures same { P.lent place.new ≡ P.lent place.old }
+    ensures filled { Fills (P.filling place.new) result (fills (fields (SyncResponse (types_left types.entry))) (P.filling place.old)) }
 {
-    out.put(&[SYNC_RESPONSE * 16])?;
-    out.put(&[0])?;
-    out.put_u32_le(types.len() as u32)?;
-    put_types(out, types)
+    place.put(&[SYNC_RESPONSE * 16])?;
+    place.put(&[0])?;
+    place.put_u32_le(types.len() as u32)?;
+    put_types(place, types)
 }
