@@ -3,6 +3,7 @@ mod Making
 mod Cuts
 mod Portions
 mod Sending
+mod Fewest
 pub mod Entries
 pub mod Standing
 pub mod Calls

@@ -77,7 +77,7 @@ sent_are_cut id (message ∷ sent) =
 -- ---- that they fit
 
 -- what holds of a PDU of all bytes, of the first one, and of Data PDUs of bytes from any place on
-each_fragment : (P : Pdu → Type 0) (id : ℕ) (message : List ℕ)
+pub each_fragment : (P : Pdu → Type 0) (id : ℕ) (message : List ℕ)
     → (length message ≤ room id → P (Data id message))
     → (room id < length message → P (DataFirst id (length message) (take (first_room id (length message)) message)))
     → ((bytes : List ℕ) (at : ℕ) → bytes ≡ take (room id) (drop at message) → P (Data id bytes))
@@ -92,7 +92,7 @@ each_fragment P id message one first others = elim (cases_lt (room id) (length m
   | inr short ↦ subst (All P) (sym (one_pdu id message short)) (All-cons P (Data id message) [] (one short) (All-nil P))
 ]
 
-length-take-below : (n : ℕ) (xs : List ℕ) → length (take n xs) ≤ n
+pub length-take-below : (n : ℕ) (xs : List ℕ) → length (take n xs) ≤ n
 length-take-below n xs = omega (arith, length-take n xs)
 
 pub fragments_taken : (id : ℕ) (message : List ℕ) → All IsData (fragments_of id message)
@@ -102,10 +102,10 @@ fragments_taken id message = each_fragment IsData id message
     (λ bytes at is. omega (arith, ap length is, length-take-below (room id) (drop at message)))
 
 -- the bytes of a Data PDU
-length-data : (id : ℕ) (bytes : List ℕ) → length (spelled (Data id bytes)) ≡ 1 + length (smallest id) + length bytes
+pub length-data : (id : ℕ) (bytes : List ℕ) → length (spelled (Data id bytes)) ≡ 1 + length (smallest id) + length bytes
 length-data id bytes = omega (arith, length-append (smallest id) (bytes ++ []), ap length (append-nil bytes))
 
-length-data_first : (id total : ℕ) (bytes : List ℕ) → length (spelled (DataFirst id total bytes)) ≡ 1 + length (smallest id) + length (smallest total) + length bytes
+pub length-data_first : (id total : ℕ) (bytes : List ℕ) → length (spelled (DataFirst id total bytes)) ≡ 1 + length (smallest id) + length (smallest total) + length bytes
 length-data_first id total bytes =
     omega (arith, length-append (smallest id) (smallest total ++ (bytes ++ [])), length-append (smallest total) (bytes ++ []), ap length (append-nil bytes))
 

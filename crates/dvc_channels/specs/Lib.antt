@@ -3,3 +3,4 @@ pub mod Cutting
 pub mod Acts
 pub mod Table
 pub mod Fragments
+pub mod Carrying

@@ -22,7 +22,8 @@ const MESSAGE: u32 = 1_048_576;
 /// What each waiting message counts beside its bytes.
 pub(crate) const OVERHEAD: u64 = 64;
 
-/// The count of what waits up to which one more message can be counted.
+/// The count of what waits up to which one more message can be counted. No machine has memory for so
+/// many bytes, so that past it memory is what is wanting.
 const COUNTED: u64 = u64::MAX - MESSAGE as u64 - OVERHEAD;
 
 /// A message under way.

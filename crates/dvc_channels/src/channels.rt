@@ -144,6 +144,13 @@ impl Channels {
         Some(message)
     }
 
+    /// How many channels were created, with those that were closed; 256 at most.
+    pub fn made(&self) -> usize
+        ensures { (t : Trace Act) → Stands self.now t → result ≡ length (ids t) }
+    {
+        self.channels.len()
+    }
+
     /// The bytes of all messages that were not taken yet, and 64 more for each message.
     pub fn waiting(&self) -> u64
         ensures { (t : Trace Act) → Stands self.now t → result ≡ waiting t }
