@@ -1,7 +1,6 @@
 -- Lemmas on the elements that flags decide.
-use Rattle.std.proofs.Common.{◌≡◌, ◌≢◌, ℕ, zero, suc, ◌+◌, ◌%◌, ◌<◌, ◌≤◌, Bool, true, false, not, eqb, List, [], ◌∷◌, ◌++◌, length, take, drop, replicate, Result, Ok, Err, inl, inr, refl, sym, ap, ◌∙◌, subst, append_assoc, append-nil, arith}
+use Rattle.std.proofs.Common.{◌≡◌, ◌≢◌, ℕ, zero, suc, ◌+◌, ◌%◌, ◌<◌, ◌≤◌, Bool, true, false, not, eqb, List, [], ◌∷◌, ◌++◌, length, replicate, Result, Ok, Err, inl, inr, refl, sym, ap, ◌∙◌, subst, append_assoc, append-nil, arith}
 use mathlib.Core.Bool.{beq}
-use Rattle.std.proofs.lemmas.List.{length-replicate, length-take}
 use Rattle.std.proofs.lemmas.Bool.{cases_lt}
 use Rattle.std.proofs.lemmas.Bool.Decides.{nat_tests}
 use Rattle.mt_base.specs.declared.errors.NoRoom.{NoRoom}
@@ -9,50 +8,11 @@ use Rattle.mt_base.specs.Writing.{Spot, put}
 use Rattle.mt_base.proofs.Bytes.{big_bytes, big_bytes_1, IsUnderWay, under_way_on, under_way_short, put_none}
 use Rattle.mt_base.proofs.Fill.{put_filled}
 use Rattle.mt_base.specs.Longest.{IsLongest}
-use Rattle.mt_base.proofs.Lists.{heads}
+use Rattle.mt_base.proofs.Stretches.{drop_copies, copy_more, longest_full, longest_ended, longest_last, differs, equals}
 use Rattle.ack_vector.specs.Longest.{element, elements_of, HoldLongest}
 use Rattle.ack_vector.specs.RunWriting.{settled, decided, kept, Stands}
 use Rattle.ack_vector.specs.declared.writer.RunWriter.{RunWriter}
 use Rattle.ack_vector.proofs.LongestLemmas.{elements_of-nil, element_small, holds, holds_one}
-
--- the first flags of copies and what follows them, and the others
-take_copies : (n : ℕ) (b : Bool) (rest : List Bool) → take n (replicate n b ++ rest) ≡ replicate n b
-take_copies zero b rest = refl
-take_copies (suc n) b rest = ap (λ t. b ∷ t) (take_copies n b rest)
-
-drop_copies : (n : ℕ) (b : Bool) (rest : List Bool) → drop n (replicate n b ++ rest) ≡ rest
-drop_copies zero b rest = refl
-drop_copies (suc n) b rest = drop_copies n b rest
-
--- one flag more
-pub copy_more : (n : ℕ) (b : Bool) (rest : List Bool) → replicate n b ++ b ∷ rest ≡ replicate (n + 1) b ++ rest
-copy_more zero b rest = refl
-copy_more (suc n) b rest =
-    let next : suc (n + 1) ≡ suc n + 1 = omega arith in
-    ap (λ t. b ∷ t) (copy_more n b rest) ∙ ap (λ k. replicate k b ++ rest) next
-
--- a stretch does not go on where another flag follows
-ends : (n m : ℕ) (b r : Bool) (later : List Bool) → r ≢ b
-    → take m (replicate n b ++ r ∷ later) ≡ replicate m b → m ≤ n
-ends n zero b r later other e = omega arith
-ends zero (suc m) b r later other e = absurd (other (heads r b (take m later) (replicate m b) e).0)
-ends (suc n) (suc m) b r later other e =
-    let rest = ends n m b r later other
-    (heads b b (take m (replicate n b ++ r ∷ later)) (replicate m b) e).1 in
-    omega arith
-
--- nor where no flag follows
-ends_last : (n m : ℕ) (b : Bool) → take m (replicate n b ++ []) ≡ replicate m b → m ≤ n
-ends_last n m b e =
-    let long = ap length e in
-    omega (
-      arith,
-      long,
-      length-take m (replicate n b ++ []),
-      ap length (append-nil (replicate n b)),
-      length-replicate n b,
-      length-replicate m b,
-    )
 
 -- the element of a stretch comes first
 first_run : (n : ℕ) (b : Bool) (rest : List Bool) → 0 < n → IsLongest b n (replicate n b ++ rest)
@@ -70,30 +30,19 @@ first_run n b rest some longest =
 -- where it is full
 full_run : (n : ℕ) (b : Bool) (rest : List Bool) → n ≡ 63
     → elements_of (replicate n b ++ rest) ≡ element b n ∷ elements_of rest
-full_run n b rest full =
-    first_run n b rest (omega arith)
-    (record { equal = take_copies n b rest; short = omega arith; greatest = λ m h e. omega arith })
+full_run n b rest full = first_run n b rest (omega arith) (longest_full n b rest full)
 
 -- where another flag follows
 ended_run : (n : ℕ) (b r : Bool) (later : List Bool) → 0 < n → n ≤ 63 → r ≢ b
     → elements_of (replicate n b ++ r ∷ later) ≡ element b n ∷ elements_of (r ∷ later)
 ended_run n b r later some short other =
-    first_run n b (r ∷ later) some (record {
-      equal = take_copies n b (r ∷ later);
-      short = short;
-      greatest = λ m h e. ends n m b r later other e;
-    })
+    first_run n b (r ∷ later) some (longest_ended n b r later short other)
 
 -- where it is the last
-pub last_run : (n : ℕ) (b : Bool) → 0 < n → n ≤ 63
-    → elements_of (replicate n b) ≡ element b n ∷ []
+last_run : (n : ℕ) (b : Bool) → 0 < n → n ≤ 63 → elements_of (replicate n b) ≡ element b n ∷ []
 last_run n b some short =
     ap elements_of (sym (append-nil (replicate n b)))
-    ∙ first_run n b [] some (record {
-      equal = take_copies n b [];
-      short = short;
-      greatest = λ m h e. ends_last n m b e;
-    })
+    ∙ first_run n b [] some (longest_last n b short)
     ∙ ap (λ es. element b n ∷ es) elements_of-nil
 
 element_count : (b : Bool) (n : ℕ) → n ≤ 63 → element b n % 64 ≡ n
@@ -158,18 +107,6 @@ step_starts n b r none = record {
 }
 
 -- the same steps by the test of two flags
-differs : (b r : Bool) → not (beq b r) ≡ true → r ≢ b
-differs true true e = absurd (cc)
-differs false false e = absurd (cc)
-differs true false e = λ f. cc
-differs false true e = λ f. cc
-
-equals : (b r : Bool) → not (beq b r) ≡ false → b ≡ r
-equals true true e = refl
-equals false false e = refl
-equals true false e = cc
-equals false true e = cc
-
 pub ends_by : (n : ℕ) (b r : Bool) → not (beq b r) ≡ true → 0 < n → n ≤ 62
     → IsStep b n r (element b n ∷ []) r 1
 ends_by n b r test some short = step_ends n b r some short (differs b r test)

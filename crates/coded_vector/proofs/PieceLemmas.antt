@@ -53,7 +53,7 @@ unfolding coded_of
 coded_of-nil = refl
 
 -- when a run is written
-abbrev Chosen : ℕ → ℕ → Type 0
+abbrev pub Chosen : ℕ → ℕ → Type 0
 Chosen n left = (7 ≤ n) ⊎ ((n ≡ left) ⊎ (left < 7))
 
 chosen_by : (n left : ℕ) (a b c : Bool) → leb 7 n ≡ a → eqb n left ≡ b → ltb left 7 ≡ c
@@ -69,7 +69,7 @@ takes_chosen n left e = chosen_by n left (leb 7 n) (eqb n left) (ltb left 7) ref
 not_taken : (n left : ℕ) → takes_run n left ≡ false → (n < 7) × (7 ≤ left)
 not_taken n left e = (grind (arith, nat_tests), grind (arith, nat_tests))
 
-chosen_takes : (n left : ℕ) → Chosen n left → takes_run n left ≡ true
+pub chosen_takes : (n left : ℕ) → Chosen n left → takes_run n left ≡ true
 chosen_takes n left (inl h) = grind (arith, nat_tests)
 chosen_takes n left (inr (inl h)) = grind (arith, nat_tests)
 chosen_takes n left (inr (inr h)) = grind (arith, nat_tests)
@@ -196,7 +196,7 @@ holds_one (c ∷ cs) fs h =
     ∙ sym (coded_of-cons f next.others) ∙ ap coded_of (sym next.fs_are)
 
 -- the flags of a run's byte
-run_flags : (b : Bool) (n : ℕ) → n ≤ 63 → flags_in (run_byte b n) ≡ replicate n b
+pub run_flags : (b : Bool) (n : ℕ) → n ≤ 63 → flags_in (run_byte b n) ≡ replicate n b
 run_flags true n h =
     let state : (192 + n) / 64 ≡ 3 = omega arith in
     let count : (192 + n) % 64 ≡ n = omega arith in

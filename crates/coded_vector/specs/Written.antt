@@ -1,7 +1,7 @@
 -- The coded bytes that are written for flags: runs of the longest stretch of equal flags that
 -- comes next, at most 63, where that is seven flags or more or all that are left, and seven flags
 -- in one byte where not. Fewer than seven flags at the end are runs too.
-use Rattle.std.specs.Prelude.{◌≡◌, ℕ, zero, suc, ◌+◌, ◌*◌, ◌<◌, ◌≤◌, ◌==◌, ◌||◌, ◌⊎◌, Bool, List, [], ◌∷◌, length, take, drop, replicate, nat_lt, nat_le, if◌then◌else◌}
+use Rattle.std.specs.Prelude.{◌≡◌, ℕ, zero, suc, ◌+◌, ◌*◌, ◌<◌, ◌≤◌, ◌==◌, ◌||◌, ◌⊎◌, Bool, List, [], ◌∷◌, length, map, take, drop, replicate, nat_lt, nat_le, if◌then◌else◌}
 use Rattle.mt_base.specs.Longest.{longest, IsLongest}
 
 -- the byte of a run of n equal flags
@@ -40,6 +40,10 @@ coded_within (suc most) (flag ∷ flags) =
 -- the coded bytes that are written for flags
 unfoldable pub coded_of : List Bool → List ℕ
 coded_of flags = coded_within (length flags) flags
+
+-- bytes that are written one by one
+abbrev pub singles : List ℕ → List (List ℕ)
+singles cs = map (λ c. c ∷ []) cs
 
 -- This byte is a run that holds the first n flags: the longest stretch that comes next, of seven
 -- flags or more, or of all that are left, or fewer than seven are left.

@@ -1,12 +1,11 @@
 -- Lemmas on writing a list of bytes into a buffer, one after the other.
 use Rattle.std.proofs.Common.{◌≡◌, ℕ, ◌+◌, ◌<◌, ◌≤◌, ltb, false, List, [], ◌∷◌, ◌++◌, length, take, drop, Ok, Err, sym, ap, ◌∙◌, append_assoc, append-nil, arith, length-append}
-use Rattle.std.proofs.lemmas.List.{drop-drop, length-drop, take-append-le, take-append-drop, take_all}
+use Rattle.std.proofs.lemmas.List.{drop-drop, length-drop, take-append-drop}
 use Rattle.std.proofs.lemmas.Bool.Decides.{nat_tests}
 use Rattle.std.specs.Int.{byte_at}
 pub use Rattle.byteorder.specs.Endian.{big_bytes}
 use Rattle.mt_base.specs.declared.errors.NoRoom.{NoRoom}
 use Rattle.mt_base.specs.Writing.{Spot, put}
-use Rattle.mt_base.proofs.Lists.{nothing}
 use Rattle.mt_base.proofs.Fill.{guard_err, put_filled}
 
 -- a spot on the way through `whole`, of which `todo` is still to be written, in a buffer that held `from`
@@ -26,24 +25,6 @@ put_refused f s e h =
 -- a byte written as a number of one byte
 pub big_bytes_1 : (byte : ℕ) → byte < 256 → big_bytes 1 byte ≡ byte ∷ []
 big_bytes_1 byte small = let e : byte_at 0 byte ≡ byte = omega arith in ap (λ b. b ∷ []) e
-
--- one byte more
-pub under_way_more : (whole todo from : List ℕ) (byte : ℕ) (s t : Spot) → byte < 256
-    → IsUnderWay whole (byte ∷ todo) from s → put (big_bytes 1 byte) s ≡ Ok t
-    → IsUnderWay whole todo from t
-under_way_more whole todo from byte s t small way written =
-    let one = put_filled (byte ∷ []) s t (ap (λ f. put f s) (sym (big_bytes_1 byte small))
-    ∙ written) in
-    let before : t.before ≡ s.before ++ byte ∷ [] = ap (λ (x : Spot). x.before) one.1 in
-    let after : t.after ≡ drop 1 s.after = ap (λ (x : Spot). x.after) one.1 in
-    let long : length t.before ≡ length s.before + 1 = ap length before
-    ∙ length-append s.before (byte ∷ []) in
-    record {
-      so_far = ap (λ x. x ++ todo) before ∙ append_assoc s.before (byte ∷ []) todo ∙ way.so_far;
-      behind = after ∙ ap (drop 1) way.behind ∙ drop-drop 1 (length s.before) from
-          ∙ ap (λ n. drop n from) (omega arith);
-      fits = omega (arith, one.0, ap length way.behind, length-drop (length s.before) from);
-    }
 
 -- a field more
 pub under_way_on : (whole field todo from : List ℕ) (s t : Spot)
@@ -95,39 +76,3 @@ under_way_done whole from last bytes at n way long same =
       front ∙ ap (λ x. whole ++ x) (way.behind
           ∙ ap (λ k. drop k from) (sym long)),
     )
-
--- where the next byte finds no place: there are more bytes than places, and the buffer is full of the first
-pub record IsFull (whole from : List ℕ) (s : Spot) (e : NoRoom) : Type 0 where
-  pub more : length from < length whole
-  pub place : e ≡ record { at = length from; need = 1 }
-  pub front : s.before ++ s.after ≡ take (length from) whole
-
-pub under_way_full : (whole todo from : List ℕ) (byte : ℕ) (s : Spot) (e : NoRoom) → byte < 256
-    → IsUnderWay whole (byte ∷ todo) from s → put (big_bytes 1 byte) s ≡ Err e
-    → IsFull whole from s e
-under_way_full whole todo from byte s e small way refused =
-    let r = put_refused (byte ∷ []) s e (ap (λ f. put f s) (sym (big_bytes_1 byte small))
-    ∙ refused) in
-    let none : length s.after ≡ 0 = omega (arith, r.0) in
-    let long : length s.before ≡ length from =
-    omega (arith, ap length way.behind, length-drop (length s.before) from, way.fits) in
-    let all : s.after ≡ [] = nothing s.after none in
-    let front : take (length from) whole ≡ s.before = ap (take (length from)) (sym way.so_far)
-    ∙ take-append-le (length from) s.before (byte ∷ todo) (omega arith)
-    ∙ take_all (length from) s.before (omega arith) in
-    record {
-      more = omega (arith, ap length way.so_far, length-append s.before (byte ∷ todo));
-      place = r.1 ∙ ap (λ n. record { at = n; need = 1 }) long;
-      front = ap (λ x. s.before ++ x) all ∙ append-nil s.before ∙ sym front;
-    }
-
--- the whole buffer then
-pub full_of : (whole from last bytes : List ℕ) (at : ℕ) (s t : Spot) (e : NoRoom)
-    → IsFull whole from s e → t ≡ s → t ≡ record {
-      before = take at bytes;
-      after =
-          drop at bytes;
-    } → last ≡ bytes → last ≡ take (length from) whole
-full_of whole from last bytes at s t e full kept is same =
-    same ∙ sym (take-append-drop at bytes) ∙ ap (λ (x : Spot). x.before ++ x.after) (sym is
-    ∙ kept) ∙ full.front

@@ -1,9 +1,11 @@
 -- Lemmas on stretches of equal flags.
-use Rattle.std.proofs.Common.{◌≡◌, ℕ, zero, suc, ◌<◌, ◌≤◌, Bool, true, false, not, cond, List, [], ◌∷◌, take, replicate, Some, slice_get, refl, arith}
+use Rattle.std.proofs.Common.{◌≡◌, ◌≢◌, ℕ, zero, suc, ◌+◌, ◌<◌, ◌≤◌, Bool, true, false, not, cond, List, [], ◌∷◌, ◌++◌, length, take, drop, replicate, Some, slice_get, refl, ap, ◌∙◌, append-nil, arith}
+use mathlib.Core.Bool.{beq}
 use Rattle.std.specs.List.{prefix_len}
-use Rattle.std.proofs.lemmas.List.{length-take}
+use Rattle.std.proofs.lemmas.List.{length-take, length-replicate}
 use Rattle.std.proofs.lemmas.List.Sums.{prefix_len-le-length}
 use Rattle.mt_base.specs.Longest.{longest, IsLongest}
+use Rattle.mt_base.proofs.Lists.{heads}
 
 -- how many of the next m flags are this one, up to the first that is not
 abbrev pub stretch : ℕ → Bool → List Bool → ℕ
@@ -74,3 +76,76 @@ pub first_of : (f : Bool) (fs : List Bool) → Some f ≡ slice_get fs 0
     → (rest : List Bool) × (fs ≡ f ∷ rest)
 first_of f [] e = absurd (cc)
 first_of f (g ∷ fs) e = (fs, cc)
+
+-- copies and what follows them: the first flags, the others, and one copy more
+take_copies : (n : ℕ) (b : Bool) (rest : List Bool) → take n (replicate n b ++ rest) ≡ replicate n b
+take_copies zero b rest = refl
+take_copies (suc n) b rest = ap (λ t. b ∷ t) (take_copies n b rest)
+
+pub drop_copies : (n : ℕ) (b : Bool) (rest : List Bool) → drop n (replicate n b ++ rest) ≡ rest
+drop_copies zero b rest = refl
+drop_copies (suc n) b rest = drop_copies n b rest
+
+pub copy_more : (n : ℕ) (b : Bool) (rest : List Bool)
+    → replicate n b ++ b ∷ rest ≡ replicate (n + 1) b ++ rest
+copy_more zero b rest = refl
+copy_more (suc n) b rest =
+    let next : suc (n + 1) ≡ suc n + 1 = omega arith in
+    ap (λ t. b ∷ t) (copy_more n b rest) ∙ ap (λ k. replicate k b ++ rest) next
+
+-- a stretch does not go on where another flag follows
+ends : (n m : ℕ) (b r : Bool) (later : List Bool) → r ≢ b
+    → take m (replicate n b ++ r ∷ later) ≡ replicate m b → m ≤ n
+ends n zero b r later other e = omega arith
+ends zero (suc m) b r later other e =
+    absurd (other (heads r b (take m later) (replicate m b) e).0)
+ends (suc n) (suc m) b r later other e =
+    let rest = ends n m b r later other
+    (heads b b (take m (replicate n b ++ r ∷ later)) (replicate m b) e).1 in
+    omega arith
+
+pub longest_ended : (n : ℕ) (b r : Bool) (later : List Bool) → n ≤ 63 → r ≢ b
+    → IsLongest b n (replicate n b ++ r ∷ later)
+longest_ended n b r later short other = record {
+  equal = take_copies n b (r ∷ later);
+  short = short;
+  greatest = λ m h e. ends n m b r later other e;
+}
+
+-- nor where it is full
+pub longest_full : (n : ℕ) (b : Bool) (rest : List Bool) → n ≡ 63
+    → IsLongest b n (replicate n b ++ rest)
+longest_full n b rest full = record {
+  equal = take_copies n b rest;
+  short = omega arith;
+  greatest = λ m h e. omega arith;
+}
+
+-- nor where no flag follows
+pub longest_last : (n : ℕ) (b : Bool) → n ≤ 63 → IsLongest b n (replicate n b ++ [])
+longest_last n b short = record {
+  equal = take_copies n b [];
+  short = short;
+  greatest = λ m h e.
+      omega (
+        arith,
+        ap length e,
+        length-take m (replicate n b ++ []),
+        ap length (append-nil (replicate n b)),
+        length-replicate n b,
+        length-replicate m b,
+      );
+}
+
+-- the test of two flags
+pub differs : (b r : Bool) → not (beq b r) ≡ true → r ≢ b
+differs true true e = absurd (cc)
+differs false false e = absurd (cc)
+differs true false e = λ f. cc
+differs false true e = λ f. cc
+
+pub equals : (b r : Bool) → not (beq b r) ≡ false → b ≡ r
+equals true true e = refl
+equals false false e = refl
+equals true false e = cc
+equals false true e = cc
