@@ -1,67 +1,19 @@
 -- Lemmas on writing a datagram.
-use Rattle.std.proofs.Common.{◌≡◌, ℕ, zero, suc, ◌+◌, ◌-◌, ◌<◌, ◌≤◌, inl, inr, Bool, true, false, ltb, cond, slice_set, List, [], ◌∷◌, ◌++◌, length, take, drop, replicate, Result, Ok, Err, refl, sym, ap, ◌∙◌, arith, append-nil, length-append}
+use Rattle.std.proofs.Common.{◌≡◌, ℕ, zero, suc, ◌+◌, ◌-◌, ◌<◌, ◌≤◌, inl, inr, Bool, true, false, ltb, cond, slice_set, List, [], ◌∷◌, ◌++◌, length, take, drop, replicate, Ok, Err, refl, sym, ap, ◌∙◌, arith, append-nil, append_assoc, length-append}
 use Rattle.std.proofs.lemmas.Bool.{cases_lt}
-use Rattle.std.proofs.lemmas.List.{length-drop, length-replicate}
+use Rattle.std.proofs.Math.Seq.{take-append_seam}
+use Rattle.std.proofs.lemmas.List.{length-drop, length-replicate, length-take-le}
+use Rattle.std.proofs.lemmas.Slice.{drop-append-drop}
 use Rattle.mt_base.specs.declared.errors.NoRoom.{NoRoom}
-use Rattle.mt_base.specs.Writing.{Spot, put, puts, then_put, joined}
-use Rattle.mt_base.proofs.Fill.{puts-append, puts_filled, puts_fit, joined-append}
+use Rattle.mt_base.specs.Writing.{puts, then_put, joined}
+use Rattle.mt_base.proofs.Fill.{puts-append, puts_fit, joined-append}
 use Rattle.mt_base.proofs.Fields.{not_both}
 use Rattle.udp2_packets.specs.Value.{Packet}
-use Rattle.udp2_packets.specs.Layout.{fields, text, rest_in, kind, prefix, exchanged, zeros, all_fields, plain_fields, written_fields, spelled}
-use Rattle.udp2_packets.specs.Filling.{fill, plain, EndsAt}
-
--- the first of eight zeros
-pub front_of_zeros : (n : ℕ) → take {A = ℕ} (8 - n) (0 ∷ 0 ∷ 0 ∷ 0 ∷ 0 ∷ 0 ∷ 0 ∷ 0 ∷ []) ≡ replicate (8 - n) 0
-front_of_zeros n = fronts (8 - n) (omega arith)
-  where
-    fronts : (k : ℕ) → k ≤ 8 → take {A = ℕ} k (0 ∷ 0 ∷ 0 ∷ 0 ∷ 0 ∷ 0 ∷ 0 ∷ 0 ∷ []) ≡ replicate k 0
-    fronts zero h = refl
-    fronts (suc zero) h = refl
-    fronts (suc (suc zero)) h = refl
-    fronts (suc (suc (suc zero))) h = refl
-    fronts (suc (suc (suc (suc zero)))) h = refl
-    fronts (suc (suc (suc (suc (suc zero))))) h = refl
-    fronts (suc (suc (suc (suc (suc (suc zero)))))) h = refl
-    fronts (suc (suc (suc (suc (suc (suc (suc zero))))))) h = refl
-    fronts (suc (suc (suc (suc (suc (suc (suc (suc zero)))))))) h = refl
-    fronts (suc (suc (suc (suc (suc (suc (suc (suc (suc n))))))))) h = absurd (omega arith)
+use Rattle.udp2_packets.specs.Layout.{fields, text, rest_in, kind, prefix, exchanged, zeros, all_fields, plain_fields, written_fields, spelled, finished}
 
 -- all fields are the packet's text
 pub text_is : (p : Packet) → joined (all_fields p) ≡ text p
 text_is p = joined-append (fields p) (rest_in p.body ∷ []) ∙ ap (λ t. joined (fields p) ++ t) (append-nil (rest_in p.body))
-
--- the place where the packet ends
-end_after : (p : Packet) (from : List ℕ) (first m : Spot) → first ≡ record { before = []; after = from } → puts ((0 ∷ []) ∷ all_fields p) first ≡ Ok m → length m.before ≡ 1 + length (text p)
-end_after p from first m starts written =
-    let f = puts_filled ((0 ∷ []) ∷ all_fields p) first m written in
-    let whole : m.before ≡ (0 ∷ []) ++ joined (all_fields p) = f.before_is ∙ ap (λ (x : Spot). x.before ++ joined ((0 ∷ []) ∷ all_fields p)) starts in
-    ap length whole ∙ ap (λ t. length (0 ∷ t)) (text_is p) ∙ (let e : length (0 ∷ text p) ≡ 1 + length (text p) = omega arith in e)
-
-pub ends : (p : Packet) (from : List ℕ) (first : Spot) (end : ℕ) → first ≡ record { before = []; after = from } → EndsAt p first end → end ≡ 1 + length (text p)
-ends p from first end starts e = e.end_is ∙ end_after p from first e.spot starts e.written
-
--- zeros up to eight bytes are the last field
-pub plain_is : (p : Packet) (from : List ℕ) (first : Spot) → first ≡ record { before = []; after = from } → plain p first ≡ puts (plain_fields p) first
-unfolding plain fill plain_fields
-plain_is p from first starts =
-    by_front (puts ((0 ∷ []) ∷ all_fields p) first) refl ∙ sym (puts-append ((0 ∷ []) ∷ all_fields p) (zeros p ∷ []) first)
-  where
-    alone : (r : Result Spot NoRoom) → r ≡ then_put r (puts [])
-    alone (Ok s) = refl
-    alone (Err e) = refl
-
-    by_front : (r : Result Spot NoRoom) → puts ((0 ∷ []) ∷ all_fields p) first ≡ r → then_put r fill ≡ then_put r (puts (zeros p ∷ []))
-    by_front (Err e) is = refl
-    by_front (Ok m) is =
-        let long : 8 - length m.before ≡ 7 - length (text p) = ap (λ n. 8 - n) (end_after p from first m starts is) ∙ (let e : 8 - (1 + length (text p)) ≡ 7 - length (text p) = omega arith in e) in
-        ap (λ n. put (replicate n 0) m) long ∙ alone (put (zeros p) m)
-
--- a field and then others
-pub in_front : (f : List ℕ) (fs : List (List ℕ)) (s m t : Spot) → put f s ≡ Ok m → puts fs m ≡ Ok t → puts (f ∷ fs) s ≡ Ok t
-in_front f fs s m t one others = ap (λ r. then_put r (puts fs)) one ∙ others
-
-pub plain_refused : (p : Packet) (from : List ℕ) (e : NoRoom) → plain p (record { before = []; after = from }) ≡ Err e → puts (plain_fields p) (record { before = []; after = from }) ≡ Err e
-plain_refused p from e is = sym (plain_is p from (record { before = []; after = from }) refl) ∙ is
 
 -- ---- the exchange
 
@@ -87,7 +39,7 @@ exchanged-append (a ∷ b ∷ c ∷ d ∷ e ∷ f ∷ []) ys long = absurd (omeg
 exchanged-append (a ∷ b ∷ c ∷ d ∷ e ∷ f ∷ g ∷ []) ys long = absurd (omega arith)
 exchanged-append (a ∷ b ∷ c ∷ d ∷ e ∷ f ∷ g ∷ h ∷ xs) ys long = refl
 
--- ---- the prefix byte takes the place of the first zero
+-- ---- the prefix byte takes the place of the first byte
 
 -- the bytes of a datagram before the exchange
 pub written_is : (p : Packet) → joined (written_fields p) ≡ prefix 0 (kind p.body) (length (text p)) ∷ (text p ++ zeros p)
@@ -95,29 +47,59 @@ unfolding written_fields
 written_is p =
     ap (λ t. prefix 0 (kind p.body) (length (text p)) ∷ t) (joined-append (all_fields p) (zeros p ∷ []) ∙ ap (λ t. t ++ (zeros p ++ [])) (text_is p) ∙ ap (λ t. text p ++ t) (append-nil (zeros p)))
 
-plain_bytes : (p : Packet) → joined (plain_fields p) ≡ 0 ∷ (text p ++ zeros p)
-unfolding plain_fields
-plain_bytes p =
-    ap (λ t. 0 ∷ t) (joined-append (all_fields p) (zeros p ∷ []) ∙ ap (λ t. t ++ (zeros p ++ [])) (text_is p) ∙ ap (λ t. text p ++ t) (append-nil (zeros p)))
+-- what is spelled is the datagram of the text
+pub spelled_is : (p : Packet) → spelled p ≡ finished (kind p.body) (text p)
+unfolding spelled finished
+spelled_is p = ap exchanged (written_is p)
 
-enough : (p : Packet) → 7 ≤ length (text p ++ zeros p)
-enough p = omega (arith, length-append (text p) (zeros p), (let n : ℕ = 0 in length-replicate (7 - length (text p)) n))
+-- a datagram has the prefix byte and the text, and at least eight bytes
+pub length-finished : (kind : ℕ) (text : List ℕ) → length (finished kind text) ≡ 1 + length text + (7 - length text)
+unfolding finished
+length-finished kind text =
+    let n : ℕ = 0 in
+    let all = prefix 0 kind (length text) ∷ (text ++ replicate (7 - length text) 0) in
+    omega (arith, length-exchanged all, length-append text (replicate (7 - length text) 0), length-replicate (7 - length text) n)
 
--- the bytes that are there in the end, and how many they are
-pub exchanged_whole : (p : Packet) (from plain set last : List ℕ) (n end byte : ℕ) → n ≡ length (joined (plain_fields p)) → plain ≡ joined (plain_fields p) ++ drop n from
-    → end ≡ 1 + length (text p) → byte ≡ prefix 0 (kind p.body) (end - 1) → set ≡ slice_set plain 0 byte → last ≡ exchanged set
+behind : (x y n : ℕ) (xs : List ℕ) → 1 ≤ n → drop n (x ∷ xs) ≡ drop n (y ∷ xs)
+behind x y zero xs h = absurd (omega arith)
+behind x y (suc n) xs h = refl
+
+as_finished : (kind : ℕ) (text : List ℕ) → finished kind text ≡ exchanged (prefix 0 kind (length text) ∷ (text ++ replicate (7 - length text) 0))
+unfolding finished
+as_finished kind text = refl
+
+-- what stands after the prefix byte was set, zeros were put behind the fields, and bytes exchanged
+pub finishing : (old set filled last : List ℕ) (kind end byte n : ℕ) → 1 ≤ end → end ≤ length old → byte ≡ prefix 0 kind (end - 1) → set ≡ slice_set old 0 byte
+    → filled ≡ take end set ++ (replicate (8 - end) 0 ++ drop (end + (8 - end)) set) → last ≡ exchanged filled → n ≡ end + (8 - end)
+    → (n ≡ length (finished kind (drop 1 (take end old)))) × (last ≡ finished kind (drop 1 (take end old)) ++ drop n old)
+finishing [] set filled last kind end byte n some within byte_is set_is filled_is last_is n_is = absurd (omega arith)
+finishing (x ∷ xs) set filled last kind zero byte n some within byte_is set_is filled_is last_is n_is = absurd (omega arith)
+finishing (x ∷ xs) set filled last kind (suc k) byte n some within byte_is set_is filled_is last_is n_is =
+    let front : List ℕ = take k xs in
+    let long : length front ≡ k = length-take-le k xs (omega arith) in
+    let first : byte ≡ prefix 0 kind (length front) = byte_is ∙ ap (prefix 0 kind) (omega arith) in
+    let zero_count : 8 - suc k ≡ 7 - length front = omega arith in
+    let rest : drop (suc k + (8 - suc k)) (byte ∷ xs) ≡ drop n (x ∷ xs) = ap (λ m. drop m (byte ∷ xs)) (sym n_is) ∙ behind byte x n xs (omega arith) in
+    let all : List ℕ = prefix 0 kind (length front) ∷ (front ++ replicate (7 - length front) 0) in
+    let laid : filled ≡ all ++ drop n (x ∷ xs) =
+    filled_is ∙ ap (λ s. take (suc k) s ++ (replicate (8 - suc k) 0 ++ drop (suc k + (8 - suc k)) s)) set_is
+    ∙ ap (λ t. (byte ∷ front) ++ (replicate (8 - suc k) 0 ++ t)) rest ∙ ap (λ m. (byte ∷ front) ++ (replicate m 0 ++ drop n (x ∷ xs))) zero_count
+    ∙ ap (λ b. (b ∷ front) ++ (replicate (7 - length front) 0 ++ drop n (x ∷ xs))) first ∙ sym (append_assoc (prefix 0 kind (length front) ∷ front) (replicate (7 - length front) 0) (drop n (x ∷ xs))) in
+    let z : ℕ = 0 in
+    let eight : 8 ≤ length all = omega (arith, length-append front (replicate (7 - length front) 0), length-replicate (7 - length front) z) in
+    (omega (arith, length-finished kind front), last_is ∙ ap exchanged laid ∙ exchanged-append all (drop n (x ∷ xs)) eight ∙ ap (λ t. t ++ drop n (x ∷ xs)) (sym (as_finished kind front)))
+
+-- the fields of a packet, finished, are the datagram that it is spelled by
+pub made : (p : Packet) (from plain last : List ℕ) (end n : ℕ) → end ≡ length (0 ∷ text p) → plain ≡ (0 ∷ text p) ++ drop end from
+    → n ≡ length (finished (kind p.body) (drop 1 (take end plain))) → last ≡ finished (kind p.body) (drop 1 (take end plain)) ++ drop n plain
     → (n ≡ length (spelled p)) × (last ≡ spelled p ++ drop n from)
-unfolding spelled
-exchanged_whole p from plain set last n end byte long plain_is end_is byte_is set_is last_is =
-    let more = enough p in
-    let front : plain ≡ 0 ∷ ((text p ++ zeros p) ++ drop n from) = plain_is ∙ ap (λ t. t ++ drop n from) (plain_bytes p) in
-    let first : byte ≡ prefix 0 (kind p.body) (length (text p)) = byte_is ∙ ap (prefix 0 (kind p.body)) (omega arith) in
-    let whole : set ≡ joined (written_fields p) ++ drop n from =
-    set_is ∙ ap (λ t. slice_set t 0 byte) front ∙ ap (λ b. b ∷ ((text p ++ zeros p) ++ drop n from)) first ∙ sym (ap (λ t. t ++ drop n from) (written_is p)) in
-    let eight : 8 ≤ length (joined (written_fields p)) = omega (arith, ap length (written_is p)) in (
-      omega (arith, ap length (plain_bytes p), ap length (written_is p), length-exchanged (joined (written_fields p))),
-      last_is ∙ ap exchanged whole ∙ exchanged-append (joined (written_fields p)) (drop n from) eight,
-    )
+made p from plain last end n end_is plain_is n_is last_is =
+    let cut : take end plain ≡ 0 ∷ text p = ap (λ x. take end x) plain_is ∙ ap (λ m. take m ((0 ∷ text p) ++ drop end from)) end_is ∙ take-append_seam (0 ∷ text p) (drop end from) in
+    let datagram : finished (kind p.body) (drop 1 (take end plain)) ≡ spelled p = ap (λ t. finished (kind p.body) (drop 1 t)) cut ∙ sym (spelled_is p) in
+    let long : n ≡ length (spelled p) = n_is ∙ ap length datagram in
+    let more : n ≡ end + (7 - length (text p)) = omega (arith, ap length (spelled_is p), length-finished (kind p.body) (text p)) in
+    let rest : drop n plain ≡ drop n from = ap (λ x. drop n x) plain_is ∙ drop-append-drop end from (0 ∷ text p) n (omega arith) (sym end_is) in
+    (long, last_is ∙ ap (λ t. t ++ drop n plain) datagram ∙ ap (λ t. spelled p ++ t) rest)
 
 -- ---- where a field does not fit
 
@@ -137,10 +119,15 @@ pub no_room : (p : Packet) (from : List ℕ) (e : NoRoom) → puts (plain_fields
 unfolding plain_fields written_fields
 no_room p from e is = by_test (ltb (length from) 1) is
   where
-    by_test : (t : Bool) → then_put (cond t (Err (record { at = 0; need = 1 })) (Ok (record { before = 0 ∷ []; after = drop 1 from }))) (puts (all_fields p ++ (zeros p ∷ []))) ≡ Err e
+    later : (b : ℕ) → puts (all_fields p) (record { before = 0 ∷ []; after = drop 1 from }) ≡ Err e → puts (all_fields p ++ (zeros p ∷ [])) (record { before = b ∷ []; after = drop 1 from }) ≡ Err e
+    later b h =
+        puts-append (all_fields p) (zeros p ∷ []) (record { before = b ∷ []; after = drop 1 from })
+        ∙ ap (λ r. then_put r (puts (zeros p ∷ []))) (same_refusal (all_fields p) (0 ∷ []) (b ∷ []) (drop 1 from) e refl h)
+
+    by_test : (t : Bool) → then_put (cond t (Err (record { at = 0; need = 1 })) (Ok (record { before = 0 ∷ []; after = drop 1 from }))) (puts (all_fields p)) ≡ Err e
         → then_put (cond t (Err (record { at = 0; need = 1 })) (Ok (record { before = prefix 0 (kind p.body) (length (text p)) ∷ []; after = drop 1 from }))) (puts (all_fields p ++ (zeros p ∷ []))) ≡ Err e
     by_test true h = h
-    by_test false h = same_refusal (all_fields p ++ (zeros p ∷ [])) (0 ∷ []) (prefix 0 (kind p.body) (length (text p)) ∷ []) (drop 1 from) e refl h
+    by_test false h = later (prefix 0 (kind p.body) (length (text p))) h
 
 pub too_long : (p : Packet) (from : List ℕ) (e : NoRoom) → puts (plain_fields p) (record { before = []; after = from }) ≡ Err e → length from < length (spelled p)
 unfolding spelled

@@ -35,7 +35,7 @@ rest_in NoBody = []
 rest_in (DataBody number part bytes) = bytes
 rest_in (DummyBody number rest) = rest
 
--- ---- the header (section 2.2.1.1)
+-- ---- the header
 
 -- one of these flags is set
 abbrev pub has : ℕ → ℕ → Bool
@@ -69,7 +69,7 @@ byte_field byte = (byte ∷ []) ∷ []
 abbrev pub number_field : ℕ → List (List ℕ)
 number_field number = little_bytes 2 number ∷ []
 
--- section 2.2.1.2.1; one byte holds the number of delays in its lower four bits and their scale in
+-- an acknowledgement; one byte holds the number of delays in its lower four bits and their scale in
 -- the upper four
 abbrev pub ack_fields : Ack → List (List ℕ)
 ack_fields a =
@@ -79,20 +79,20 @@ ack_fields a =
 abbrev pub stamp_fields : Stamp → List (List ℕ)
 stamp_fields s = little_bytes 3 s.time ∷ (s.gap ∷ []) ∷ []
 
--- section 2.2.1.2.6; one byte holds the number of coded bytes in its lower seven bits, and whether
+-- a vector; one byte holds the number of coded bytes in its lower seven bits, and whether
 -- there is a time in the highest
 abbrev pub vector_fields : Vector → List (List ℕ)
 vector_fields v =
     little_bytes 2 v.base ∷ ((length v.coded + flag_if (is_some v.stamp) 128) ∷ [])
     ∷ (where_some stamp_fields v.stamp ++ (v.coded ∷ []))
 
--- section 2.2.1.2.3
+-- how long acknowledgements may be delayed
 abbrev pub delay_fields : Delay → List (List ℕ)
 delay_fields d = (d.most ∷ []) ∷ little_bytes 2 d.timeout ∷ []
 
--- The fields behind the header: the acknowledgement, the size of overhead (section 2.2.1.2.2), the
--- delay, the acknowledgement of acknowledgements (2.2.1.2.4), the number of a transmission
--- (2.2.1.2.5), the vector, and the number of a part (2.2.1.2.7).
+-- The fields behind the header: the acknowledgement, the size of overhead, the delay, the
+-- acknowledgement of acknowledgements, the number of a transmission, the vector, and the number of
+-- a part.
 abbrev pub announced_fields : Packet → List (List ℕ)
 announced_fields p =
     where_some ack_fields (ack_in p.telling)
@@ -148,7 +148,7 @@ pub record IsPacket (p : Packet) : Type 0 where
   pub part_fits : IfSome (part_in p.body) (λ part. part < 2 ^ 16)
   pub rest_are : IsBytes (rest_in p.body)
 
--- ---- the prefix byte, and the exchange of two bytes (section 2.2.2)
+-- ---- the prefix byte, and the exchange of two bytes
 
 -- the packet type: 0 for data, 8 for a dummy
 abbrev pub kind : Body → ℕ
@@ -198,9 +198,14 @@ unfoldable pub written_fields : Packet → List (List ℕ)
 written_fields p =
     (prefix 0 (kind p.body) (length (text p)) ∷ []) ∷ (all_fields p ++ (zeros p ∷ []))
 
--- the same with a zero for the prefix byte
-unfoldable pub plain_fields : Packet → List (List ℕ)
-plain_fields p = (0 ∷ []) ∷ (all_fields p ++ (zeros p ∷ []))
-
 unfoldable pub spelled : Packet → List ℕ
 spelled p = exchanged (joined (written_fields p))
+
+-- the fields alone, with a zero in the place of the prefix byte
+unfoldable pub plain_fields : Packet → List (List ℕ)
+plain_fields p = (0 ∷ []) ∷ all_fields p
+
+-- the datagram that a writer makes of a text, for a packet of this type
+unfoldable pub finished : ℕ → List ℕ → List ℕ
+finished kind text =
+    exchanged (prefix 0 kind (length text) ∷ (text ++ replicate (7 - length text) 0))

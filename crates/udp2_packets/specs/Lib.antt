@@ -3,4 +3,3 @@ pub mod Views
 pub mod Layout
 pub mod Faults
 pub mod Reading
-pub mod Filling

@@ -1,7 +1,7 @@
--- Packets of the second layout as values of lists and numbers (MS-RDPEUDP2 section 2.2.1).
+-- Packets of the second layout as values of lists and numbers (MS-RDPEUDP2 section 2.2).
 use Rattle.std.specs.Prelude.{ℕ, List, Option}
 
--- An acknowledgement (section 2.2.1.2.1): the number that it tells, the time when that was
+-- An acknowledgement: the number that it tells, the time when that was
 -- received, the time up to the acknowledgement, and the delays of the numbers before it with their
 -- scale.
 pub record Ack : Type 0 where
@@ -16,7 +16,7 @@ pub record Stamp : Type 0 where
   pub time : ℕ
   pub gap : ℕ
 
--- an acknowledgement vector (section 2.2.1.2.6): the number of its first flag, and its coded bytes
+-- an acknowledgement vector: the number of its first flag, and its coded bytes
 pub record Vector : Type 0 where
   pub base : ℕ
   pub stamp : Option Stamp
@@ -28,14 +28,13 @@ pub data Telling : Type 0 where
   AckTelling : (ack : Ack) → Telling
   VectorTelling : (vector : Vector) → Telling
 
--- how long acknowledgements may be delayed (section 2.2.1.2.3)
+-- how long acknowledgements may be delayed
 pub record Delay : Type 0 where
   pub most : ℕ
   pub timeout : ℕ
 
--- What a packet carries: nothing, data with the numbers of its transmission and of its part
--- (sections 2.2.1.2.5 and 2.2.1.2.7), or what has no effect, with a transmission's number or
--- without.
+-- What a packet carries: nothing, data with the numbers of its transmission and of its part, or what
+-- has no effect, with a transmission's number or without.
 pub data Body : Type 0 where
   NoBody : Body
   DataBody : (number part : ℕ) (bytes : List ℕ) → Body

@@ -1,4 +1,4 @@
-//! The flags of a packet's header (MS-RDPEUDP2 section 2.2.1.1).
+//! The flags of a packet's header (MS-RDPEUDP2 section 2.2).
 
 ghost use Rattle.std.specs.Prelude.{◌≡◌};
 ghost use Rattle.udp2_packets.specs.Layout.{has};

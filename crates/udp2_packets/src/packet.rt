@@ -1,7 +1,7 @@
 //! Packets of the second layout, with their parts borrowed from the bytes that they were read
 //! from.
 
-/// An acknowledgement (MS-RDPEUDP2 section 2.2.1.2.1). It tells `number` and as many numbers below
+/// An acknowledgement (MS-RDPEUDP2 section 2.2). It tells `number` and as many numbers below
 /// it as there are delays.
 #[derive(Clone, Copy, Debug)]
 pub struct Ack2<'a> {
@@ -17,7 +17,7 @@ pub struct Ack2<'a> {
     pub delays: &'a [u8],
 }
 
-/// An acknowledgement vector (section 2.2.1.2.6).
+/// An acknowledgement vector.
 #[derive(Clone, Copy, Debug)]
 pub struct Vector2<'a> {
     /// BaseSeqNum.
@@ -44,7 +44,7 @@ pub enum Telling2<'a> {
     Vector(Vector2<'a>),
 }
 
-/// How long acknowledgements may be delayed (section 2.2.1.2.3).
+/// How long acknowledgements may be delayed.
 #[derive(Clone, Copy, Debug, PartialEq, Eq)]
 pub struct DelayInfo {
     /// MaxDelayedAcks.
@@ -57,7 +57,7 @@ pub struct DelayInfo {
 #[derive(Clone, Copy, Debug)]
 pub enum Body2<'a> {
     Nothing,
-    /// Data (sections 2.2.1.2.5 and 2.2.1.2.7): DataSeqNum, ChannelSeqNum and the bytes.
+    /// Data: DataSeqNum, ChannelSeqNum and the bytes.
     Data {
         number: u16,
         part: u16,
@@ -70,16 +70,16 @@ pub enum Body2<'a> {
     },
 }
 
-/// A packet (section 2.2.1).
+/// A packet.
 #[derive(Clone, Copy, Debug)]
 pub struct Packet2<'a> {
     /// LogWindowSize, below 16: the window has 2 to this power packets.
     pub log_window: u8,
     pub telling: Telling2<'a>,
-    /// OverheadSize (section 2.2.1.2.2).
+    /// OverheadSize.
     pub overhead: Option<u8>,
     pub delay: Option<DelayInfo>,
-    /// AckOfAcksSeqNum (section 2.2.1.2.4).
+    /// AckOfAcksSeqNum.
     pub aoa: Option<u16>,
     pub body: Body2<'a>,
 }

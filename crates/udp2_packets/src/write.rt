@@ -1,120 +1,116 @@
 //! Writing packets.
 
-ghost use Rattle.std.specs.Prelude.{◌≡◌, ◌+◌, ◌-◌, ◌*◌, ◌<◌, ◌≤◌, ◌^◌, ◌++◌, [], ◌∷◌, length, drop, IfOk, IfErr, IfSome, OnOk, OnErr, Err, is_some};
+ghost use Rattle.std.specs.Prelude.{◌≡◌, ◌+◌, ◌<◌, ◌≤◌, ◌++◌, [], ◌∷◌, length, drop, IfOk, IfErr, IfSome, OnOk, OnErr, Err, is_some};
 ghost use Rattle.std.specs.Option.{option_map};
-ghost use Rattle.mt_base.specs.Writing.{Writes, puts, joined};
-ghost use Rattle.mt_base.specs.OutView.{spot};
+ghost use Rattle.mt_base.specs.Filling.{Fills, fills};
+ghost use Rattle.mt_base.specs.Writing.{puts};
 ghost use Rattle.mt_base.specs.Parts.{where_some};
-ghost use Rattle.udp2_packets.specs.Layout.{ack_in, vector_in, number_in, part_in, rest_in, flag_if, flags, byte_field, number_field, ack_fields, stamp_fields, vector_fields, delay_fields, announced_fields, text, IsAck, IsStamp, IsVector, IsPacket, kind, prefix, zeros, all_fields, plain_fields, written_fields, spelled};
-ghost use Rattle.udp2_packets.specs.Filling.{fill, plain, EndsAt};
+ghost use Rattle.udp2_packets.specs.Layout.{ack_in, vector_in, number_in, part_in, rest_in, flag_if, flags, byte_field, number_field, ack_fields, stamp_fields, vector_fields, delay_fields, announced_fields, text, IsAck, IsStamp, IsVector, IsPacket, all_fields, plain_fields, written_fields, spelled};
 ghost use Rattle.udp2_packets.specs.Views.{ack_of, stamp_of, vector_of, telling_of, delay_of, body_of, packet_of};
 
-use crate::exchange::exchange;
+use crate::finish::finish2;
 use crate::flags;
 use crate::packet::{Ack2, Body2, DelayInfo, Packet2, Stamp2, Telling2, Vector2};
-use mt_base::{NoRoom, Out};
+use mt_base::{NoRoom, Place, Spell, write};
 
-/// What fills a short datagram.
-const ZEROS: [u8; 8] = [0; 8];
-
-fn put_byte(out: &mut Out<'_>, byte: Option<u8>) -> Result<(), NoRoom>
-    ensures same { out.new.bytes.ghost_name ≡ out.old.bytes.ghost_name }
-    ensures written { Writes (spot out.new) result
-        (puts (where_some byte_field byte) (spot out.old)) }
+fn put_byte<P: Place>(place: &mut P, byte: Option<u8>) -> Result<(), NoRoom>
+    ensures same { P.lent place.new ≡ P.lent place.old }
+    ensures filled { Fills (P.filling place.new) result
+        (fills (where_some byte_field byte) (P.filling place.old)) }
 {
     match byte {
         None => Ok(()),
-        Some(byte) => out.put(&[byte]),
+        Some(byte) => place.put(&[byte]),
     }
 }
 
-fn put_number(out: &mut Out<'_>, number: Option<u16>) -> Result<(), NoRoom>
-    ensures same { out.new.bytes.ghost_name ≡ out.old.bytes.ghost_name }
-    ensures written { Writes (spot out.new) result
-        (puts (where_some number_field number) (spot out.old)) }
+fn put_number<P: Place>(place: &mut P, number: Option<u16>) -> Result<(), NoRoom>
+    ensures same { P.lent place.new ≡ P.lent place.old }
+    ensures filled { Fills (P.filling place.new) result
+        (fills (where_some number_field number) (P.filling place.old)) }
 {
     match number {
         None => Ok(()),
-        Some(number) => out.put_u16_le(number),
+        Some(number) => place.put_u16_le(number),
     }
 }
 
-fn put_delay(out: &mut Out<'_>, delay: Option<DelayInfo>) -> Result<(), NoRoom>
-    ensures same { out.new.bytes.ghost_name ≡ out.old.bytes.ghost_name }
-    ensures written { Writes (spot out.new) result
-        (puts (where_some delay_fields (option_map delay_of delay)) (spot out.old)) }
+fn put_delay<P: Place>(place: &mut P, delay: Option<DelayInfo>) -> Result<(), NoRoom>
+    ensures same { P.lent place.new ≡ P.lent place.old }
+    ensures filled { Fills (P.filling place.new) result
+        (fills (where_some delay_fields (option_map delay_of delay)) (P.filling place.old)) }
 {
     match delay {
         None => Ok(()),
         Some(delay) => {
-            out.put(&[delay.most])?;
-            out.put_u16_le(delay.timeout)
+            place.put(&[delay.most])?;
+            place.put_u16_le(delay.timeout)
         }
     }
 }
 
-fn put_ack(out: &mut Out<'_>, ack: &Ack2<'_>) -> Result<(), NoRoom>
+fn put_ack<P: Place>(place: &mut P, ack: &Ack2<'_>) -> Result<(), NoRoom>
     requires { IsAck (ack_of ack.now) }
-    ensures same { out.new.bytes.ghost_name ≡ out.old.bytes.ghost_name }
-    ensures written { Writes (spot out.new) result
-        (puts (ack_fields (ack_of ack.now)) (spot out.old)) }
+    ensures same { P.lent place.new ≡ P.lent place.old }
+    ensures filled { Fills (P.filling place.new) result
+        (fills (ack_fields (ack_of ack.now)) (P.filling place.old)) }
 {
-    out.put_u16_le(ack.number)?;
-    out.put_u24_le(ack.received_ts)?;
-    out.put(&[ack.gap])?;
-    out.put(&[ack.delays.len() as u8 + 16 * ack.scale])?;
-    out.put(ack.delays)
+    place.put_u16_le(ack.number)?;
+    place.put_u24_le(ack.received_ts)?;
+    place.put(&[ack.gap])?;
+    place.put(&[ack.delays.len() as u8 + 16 * ack.scale])?;
+    place.put(ack.delays)
 }
 
-fn put_stamp(out: &mut Out<'_>, stamp: Option<Stamp2>) -> Result<(), NoRoom>
+fn put_stamp<P: Place>(place: &mut P, stamp: Option<Stamp2>) -> Result<(), NoRoom>
     requires { IfSome (option_map stamp_of stamp) IsStamp }
-    ensures same { out.new.bytes.ghost_name ≡ out.old.bytes.ghost_name }
-    ensures written { Writes (spot out.new) result
-        (puts (where_some stamp_fields (option_map stamp_of stamp)) (spot out.old)) }
+    ensures same { P.lent place.new ≡ P.lent place.old }
+    ensures filled { Fills (P.filling place.new) result
+        (fills (where_some stamp_fields (option_map stamp_of stamp)) (P.filling place.old)) }
 {
     match stamp {
         None => Ok(()),
         Some(stamp) => {
-            out.put_u24_le(stamp.time)?;
-            out.put(&[stamp.gap])
+            place.put_u24_le(stamp.time)?;
+            place.put(&[stamp.gap])
         }
     }
 }
 
 #[tactic(auto, using(mt_base::proofs::Steps::by_parts))]
-fn put_vector(out: &mut Out<'_>, vector: &Vector2<'_>) -> Result<(), NoRoom>
+fn put_vector<P: Place>(place: &mut P, vector: &Vector2<'_>) -> Result<(), NoRoom>
     requires { IsVector (vector_of vector.now) }
-    ensures same { out.new.bytes.ghost_name ≡ out.old.bytes.ghost_name }
-    ensures written { Writes (spot out.new) result
-        (puts (vector_fields (vector_of vector.now)) (spot out.old)) }
+    ensures same { P.lent place.new ≡ P.lent place.old }
+    ensures filled { Fills (P.filling place.new) result
+        (fills (vector_fields (vector_of vector.now)) (P.filling place.old)) }
 {
     let highest = if vector.stamp.is_some() { 128 } else { 0 };
-    out.put_u16_le(vector.base)?;
-    out.put(&[vector.coded.len() as u8 + highest])?;
-    put_stamp(out, vector.stamp)?;
-    out.put(vector.coded)
+    place.put_u16_le(vector.base)?;
+    place.put(&[vector.coded.len() as u8 + highest])?;
+    put_stamp(place, vector.stamp)?;
+    place.put(vector.coded)
 }
 
-fn put_told_ack(out: &mut Out<'_>, telling: &Telling2<'_>) -> Result<(), NoRoom>
+fn put_told_ack<P: Place>(place: &mut P, telling: &Telling2<'_>) -> Result<(), NoRoom>
     requires { IfSome (ack_in (telling_of telling.now)) IsAck }
-    ensures same { out.new.bytes.ghost_name ≡ out.old.bytes.ghost_name }
-    ensures written { Writes (spot out.new) result
-        (puts (where_some ack_fields (ack_in (telling_of telling.now))) (spot out.old)) }
+    ensures same { P.lent place.new ≡ P.lent place.old }
+    ensures filled { Fills (P.filling place.new) result
+        (fills (where_some ack_fields (ack_in (telling_of telling.now))) (P.filling place.old)) }
 {
     match telling {
-        Telling2::Ack(ack) => put_ack(out, ack),
+        Telling2::Ack(ack) => put_ack(place, ack),
         Telling2::Nothing | Telling2::Vector(_) => Ok(()),
     }
 }
 
-fn put_told_vector(out: &mut Out<'_>, telling: &Telling2<'_>) -> Result<(), NoRoom>
+fn put_told_vector<P: Place>(place: &mut P, telling: &Telling2<'_>) -> Result<(), NoRoom>
     requires { IfSome (vector_in (telling_of telling.now)) IsVector }
-    ensures same { out.new.bytes.ghost_name ≡ out.old.bytes.ghost_name }
-    ensures written { Writes (spot out.new) result
-        (puts (where_some vector_fields (vector_in (telling_of telling.now))) (spot out.old)) }
+    ensures same { P.lent place.new ≡ P.lent place.old }
+    ensures filled { Fills (P.filling place.new) result
+        (fills (where_some vector_fields (vector_in (telling_of telling.now))) (P.filling place.old)) }
 {
     match telling {
-        Telling2::Vector(vector) => put_vector(out, vector),
+        Telling2::Vector(vector) => put_vector(place, vector),
         Telling2::Nothing | Telling2::Ack(_) => Ok(()),
     }
 }
@@ -140,19 +136,19 @@ fn part_in(body: &Body2<'_>) -> Option<u16>
 
 /// Writes the fields behind the header.
 #[tactic(auto, using(mt_base::proofs::Steps::by_parts))]
-fn put_announced(out: &mut Out<'_>, packet: &Packet2<'_>) -> Result<(), NoRoom>
+fn put_announced<P: Place>(place: &mut P, packet: &Packet2<'_>) -> Result<(), NoRoom>
     requires { IsPacket (packet_of packet.now) }
-    ensures same { out.new.bytes.ghost_name ≡ out.old.bytes.ghost_name }
-    ensures written { Writes (spot out.new) result
-        (puts (announced_fields (packet_of packet.now)) (spot out.old)) }
+    ensures same { P.lent place.new ≡ P.lent place.old }
+    ensures filled { Fills (P.filling place.new) result
+        (fills (announced_fields (packet_of packet.now)) (P.filling place.old)) }
 {
-    put_told_ack(out, &packet.telling)?;
-    put_byte(out, packet.overhead)?;
-    put_delay(out, packet.delay)?;
-    put_number(out, packet.aoa)?;
-    put_number(out, number_in(&packet.body))?;
-    put_told_vector(out, &packet.telling)?;
-    put_number(out, part_in(&packet.body))
+    put_told_ack(place, &packet.telling)?;
+    put_byte(place, packet.overhead)?;
+    put_delay(place, packet.delay)?;
+    put_number(place, packet.aoa)?;
+    put_number(place, number_in(&packet.body))?;
+    put_told_vector(place, &packet.telling)?;
+    put_number(place, part_in(&packet.body))
 }
 
 /// A flag, where something is so.
@@ -184,81 +180,63 @@ fn flags_of(packet: &Packet2<'_>) -> u16
         + flag_if(packet.delay.is_some(), flags::DELAYACKINFO)
 }
 
-fn put_rest(out: &mut Out<'_>, body: &Body2<'_>) -> Result<(), NoRoom>
-    ensures same { out.new.bytes.ghost_name ≡ out.old.bytes.ghost_name }
-    ensures written { Writes (spot out.new) result
-        (puts (rest_in (body_of body.now) ∷ []) (spot out.old)) }
+fn put_rest<P: Place>(place: &mut P, body: &Body2<'_>) -> Result<(), NoRoom>
+    ensures same { P.lent place.new ≡ P.lent place.old }
+    ensures filled { Fills (P.filling place.new) result
+        (fills (rest_in (body_of body.now) ∷ []) (P.filling place.old)) }
 {
     match *body {
-        Body2::Nothing => out.put(&[]),
-        Body2::Data { bytes, .. } => out.put(bytes),
-        Body2::Dummy { rest, .. } => out.put(rest),
+        Body2::Nothing => place.put(&[]),
+        Body2::Data { bytes, .. } => place.put(bytes),
+        Body2::Dummy { rest, .. } => place.put(rest),
     }
 }
 
-/// Writes the packet without its prefix byte.
+/// Writes the header, the fields behind it, and the bytes that end the packet.
 #[tactic(auto, using(mt_base::proofs::Steps::by_parts))]
-fn put_packet(out: &mut Out<'_>, packet: &Packet2<'_>) -> Result<(), NoRoom>
+fn put_packet<P: Place>(place: &mut P, packet: &Packet2<'_>) -> Result<(), NoRoom>
     requires { IsPacket (packet_of packet.now) }
-    ensures same { out.new.bytes.ghost_name ≡ out.old.bytes.ghost_name }
-    ensures written { Writes (spot out.new) result
-        (puts (all_fields (packet_of packet.now)) (spot out.old)) }
+    ensures same { P.lent place.new ≡ P.lent place.old }
+    ensures filled { Fills (P.filling place.new) result
+        (fills (all_fields (packet_of packet.now)) (P.filling place.old)) }
 {
     let window = u16::from(packet.log_window);
-    out.put_u16_le(flags_of(packet) + 0x1000 * window)?;
-    put_announced(out, packet)?;
-    put_rest(out, &packet.body)
+    place.put_u16_le(flags_of(packet) + 0x1000 * window)?;
+    put_announced(place, packet)?;
+    put_rest(place, &packet.body)
 }
 
-/// The prefix byte of a packet with so many bytes behind it.
-fn prefix(body: &Body2<'_>, long: usize) -> u8
-    ensures { result ≡ prefix 0 (kind (body_of body.now)) long }
-{
-    let kind = match body {
-        Body2::Nothing | Body2::Data { .. } => 0,
-        Body2::Dummy { .. } => 8,
-    };
-    2 * kind + 32 * long.min(7) as u8
+/// The fields of a packet, behind a zero in the place of the prefix byte.
+impl Spell for Packet2<'_> {
+    ghost use Rattle.udp2_packets.specs.Layout.{IsPacket, plain_fields};
+    ghost use Rattle.udp2_packets.specs.Views.{packet_of};
+
+    ghost fields = { λ p. plain_fields (packet_of p) };
+
+    ghost fits = { λ p. IsPacket (packet_of p) };
+
+    #[tactic(auto, unfolding(crate::specs::Layout::plain_fields))]
+    fn spell<P: Place>(&self, place: &mut P) -> Result<(), NoRoom> {
+        place.put(&[0])?;
+        put_packet(place, self)
+    }
 }
 
-/// Writes zeros up to eight bytes.
-#[tactic(auto, unfolding(crate::specs::Filling::fill), using(crate::proofs::WriterLemmas::front_of_zeros))]
-fn put_filling(out: &mut Out<'_>) -> Result<(), NoRoom>
-    ensures same { out.new.bytes.ghost_name ≡ out.old.bytes.ghost_name }
-    ensures written { Writes (spot out.new) result (fill (spot out.old)) }
-{
-    let missing = ZEROS.len().saturating_sub(out.at());
-    out.put(&ZEROS[..missing])
-}
-
-/// Writes a zero, the packet behind it, and zeros up to eight bytes. Gives the packet's end.
-#[tactic(auto, unfolding(crate::specs::Filling::plain))]
-fn put_plain(out: &mut Out<'_>, packet: &Packet2<'_>) -> Result<usize, NoRoom>
+/// Writes a zero in the place of the prefix byte and the fields of a packet behind it at the front
+/// of `out`, and gives where they end. [`finish2`] makes a datagram of them.
+///
+/// Where a field does not fit it is [`NoRoom`], with that field's place and length, and `out` stays
+/// as it was.
+#[tactic(auto, unfolding(crate::specs::Layout::plain_fields), using(crate::proofs::WriterLemmas::text_is))]
+pub fn write_fields2(packet: &Packet2<'_>, out: &mut [u8; 1232]) -> Result<usize, NoRoom>
     requires { IsPacket (packet_of packet.now) }
-    ensures same { out.new.bytes.ghost_name ≡ out.old.bytes.ghost_name }
-    ensures written { Writes (spot out.new) result (plain (packet_of packet.now) (spot out.old)) }
-    ensures ends { IfOk result (λ end. EndsAt (packet_of packet.now) (spot out.old) end) }
-{
-    out.put(&[0])?;
-    put_packet(out, packet)?;
-    let end = out.at();
-    put_filling(out)?;
-    Ok(end)
-}
-
-/// The same at the front of `out`. Gives the packet's end and how many bytes were written.
-#[tactic(auto, using(crate::proofs::WriterLemmas::plain_refused))]
-fn write_plain(out: &mut [u8], packet: &Packet2<'_>) -> Result<(usize, usize), NoRoom>
-    requires { IsPacket (packet_of packet.now) }
-    ensures ends { IfOk result (λ r. r.0 ≡ 1 + length (text (packet_of packet.now))) }
-    ensures ok { let bytes = joined (plain_fields (packet_of packet.now)) in
-        IfOk result (λ r. (r.1 ≡ length bytes) × (out.new ≡ bytes ++ drop r.1 out.old)) }
+    ensures ok { let bytes = 0 ∷ text (packet_of packet.now) in
+        IfOk result (λ end. (end ≡ length bytes) × (out.new ≡ bytes ++ drop end out.old)) }
     ensures no_room { IfErr result (λ e. puts (plain_fields (packet_of packet.now))
         (record { before = []; after = out.old }) ≡ Err e) }
+    ensures unchanged { OnErr result (out.new ≡ out.old) }
 {
-    let mut place = Out::new(out);
-    let end = put_plain(&mut place, packet)?;
-    Ok((end, place.at()))
+    write(packet, out)
 }
 
 /// Writes the datagram of a packet at the front of `out`, and gives the number of its bytes
@@ -266,7 +244,7 @@ fn write_plain(out: &mut [u8], packet: &Packet2<'_>) -> Result<(usize, usize), N
 /// zeros fill a datagram up to eight bytes.
 ///
 /// Where the datagram would have more than 1,232 bytes it is [`NoRoom`], with the place and length
-/// of the first field that does not fit.
+/// of the first field that does not fit, and `out` stays as it was.
 #[tactic(auto, using(crate::proofs::WriterLemmas::no_room, crate::proofs::WriterLemmas::too_long))]
 pub fn write2(packet: &Packet2<'_>, out: &mut [u8; 1232]) -> Result<usize, NoRoom>
     requires { IsPacket (packet_of packet.now) }
@@ -276,9 +254,8 @@ pub fn write2(packet: &Packet2<'_>, out: &mut [u8; 1232]) -> Result<usize, NoRoo
         (record { before = []; after = out.old }) ≡ Err e) }
     ensures fits { OnOk result (length (spelled (packet_of packet.now)) ≤ 1232) }
     ensures too_long { OnErr result (1232 < length (spelled (packet_of packet.now))) }
+    ensures unchanged { OnErr result (out.new ≡ out.old) }
 {
-    let (end, long) = write_plain(out, packet)?;
-    out[0] = prefix(&packet.body, end - 1);
-    exchange(out);
-    Ok(long)
+    let end = write_fields2(packet, out)?;
+    Ok(finish2(&packet.body, end, out))
 }
