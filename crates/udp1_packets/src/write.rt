@@ -43,7 +43,8 @@ fn put_extension<P: Place>(place: &mut P, extension: Option<Extension<'_>>) -> R
 fn put_syn<P: Place>(place: &mut P, syn: &Syn1<'_>) -> Result<(), NoRoom>
     ensures same { P.lent place.new ≡ P.lent place.old }
     ensures filled { let body = SynBody (syn_of syn.now) in
-        Fills (P.filling place.new) result (fills (body_fields body (zeros body)) (P.filling place.old)) }
+        let fields = body_fields body (zeros body) in
+        Fills (P.filling place.new) result (fills fields (P.filling place.old)) }
 {
     place.put_u32_be(syn.initial)?;
     place.put_u16_be(syn.up)?;
@@ -73,7 +74,8 @@ fn put_vector<P: Place>(place: &mut P, vector: Option<&[u8]>) -> Result<(), NoRo
 
 fn put_number<P: Place>(place: &mut P, number: Option<u32>) -> Result<(), NoRoom>
     ensures same { P.lent place.new ≡ P.lent place.old }
-    ensures filled { Fills (P.filling place.new) result (fills (aoa_fields number) (P.filling place.old)) }
+    ensures filled { Fills (P.filling place.new) result
+        (fills (aoa_fields number) (P.filling place.old)) }
 {
     match number {
         None => Ok(()),
@@ -166,7 +168,8 @@ fn put_body<P: Place>(place: &mut P, body: &Body1<'_>) -> Result<(), NoRoom>
     requires { IsBody (body_of body.now) }
     ensures same { P.lent place.new ≡ P.lent place.old }
     ensures filled { let body = body_of body.now in
-        Fills (P.filling place.new) result (fills (body_fields body (zeros body)) (P.filling place.old)) }
+        let fields = body_fields body (zeros body) in
+        Fills (P.filling place.new) result (fills fields (P.filling place.old)) }
 {
     match *body {
         Body1::Syn(syn) => put_syn(place, &syn),

@@ -24,7 +24,8 @@ fn prefix(body: &Body2<'_>, long: usize) -> u8
 /// Writes zeros up to eight bytes.
 fn fill_up(end: usize, out: &mut [u8; 1232])
     requires { end ≤ 1232 }
-    ensures { out.new ≡ take end out.old ++ (replicate (8 - end) 0 ++ drop (end + (8 - end)) out.old) }
+    ensures { let zeros = replicate (8 - end) 0 in
+        out.new ≡ take end out.old ++ (zeros ++ drop (end + (8 - end)) out.old) }
 {
     if end < LEAST {
         out[end..LEAST].fill(0);
@@ -33,7 +34,8 @@ fn fill_up(end: usize, out: &mut [u8; 1232])
 
 /// Makes a datagram of the fields of a packet with this body, which stand in `out` up to `end`
 /// behind the place of the prefix byte: writes the prefix byte, zeros up to eight bytes, and the
-/// bytes at 0 and at 7 in each other's place (MS-RDPEUDP2 section 2.2). Gives the datagram's length.
+/// bytes at 0 and at 7 in each other's place (MS-RDPEUDP2 section 2.2). Gives the length of the
+/// datagram.
 pub fn finish2(body: &Body2<'_>, end: usize, out: &mut [u8; 1232]) -> usize
     requires some { 1 ≤ end }
     requires within { end ≤ 1232 }

@@ -5,8 +5,8 @@
 //! Below it stand `mt_base` with its cursor and its place for writing, and `carrier` for the
 //! refusal. What the crates above use is that [`read2`] gives the packet that a datagram spells or
 //! its first fault, that [`write2`] writes a datagram that spells a packet, and that this is read
-//! back. [`write_fields2`] and [`finish2`] are its two halves, between which bytes may be put behind
-//! the fields.
+//! back. [`write_fields2`] and [`finish2`] are its two halves, between which bytes may be put
+//! behind the fields.
 #![tactic(auto)]
 
 mod exchange;

@@ -106,8 +106,8 @@ fn put_told_ack<P: Place>(place: &mut P, telling: &Telling2<'_>) -> Result<(), N
 fn put_told_vector<P: Place>(place: &mut P, telling: &Telling2<'_>) -> Result<(), NoRoom>
     requires { IfSome (vector_in (telling_of telling.now)) IsVector }
     ensures same { P.lent place.new ≡ P.lent place.old }
-    ensures filled { Fills (P.filling place.new) result
-        (fills (where_some vector_fields (vector_in (telling_of telling.now))) (P.filling place.old)) }
+    ensures filled { let fields = where_some vector_fields (vector_in (telling_of telling.now)) in
+        Fills (P.filling place.new) result (fills fields (P.filling place.old)) }
 {
     match telling {
         Telling2::Vector(vector) => put_vector(place, vector),
@@ -227,7 +227,7 @@ impl Spell for Packet2<'_> {
 ///
 /// Where a field does not fit it is [`NoRoom`], with that field's place and length, and `out` stays
 /// as it was.
-#[tactic(auto, unfolding(crate::specs::Layout::plain_fields), using(crate::proofs::WriterLemmas::text_is))]
+#[tactic(auto, unfolding(crate::specs::Layout::plain_fields))]
 pub fn write_fields2(packet: &Packet2<'_>, out: &mut [u8; 1232]) -> Result<usize, NoRoom>
     requires { IsPacket (packet_of packet.now) }
     ensures ok { let bytes = 0 ∷ text (packet_of packet.now) in
