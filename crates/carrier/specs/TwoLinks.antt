@@ -8,7 +8,7 @@ use Rattle.mt_windows.specs.Noted.{is_noted}
 use Rattle.mt_windows.specs.Sending.{Act, Limits, cuts, lowest_or_next, part_of, piece, settled, told, transmissions}
 use Rattle.carrier.specs.Entries.{Entry, In, given, pulled}
 use Rattle.carrier.specs.Layout.{Layout, Bounds, Shows, Shown, Load, Empty, Telling, Datagram, Carried, named_in, with_named, read_near}
-use Rattle.carrier.specs.Receiving.{reading, received, accepted, arrival, floor_read, Arrival}
+use Rattle.carrier.specs.Receiving.{reading, received, accepted, arrival, floor_read, last_seen, next_part, Arrival}
 use Rattle.carrier.specs.Sending.{acts, told_reference}
 use Rattle.carrier.specs.Law.{Faithful}
 use Rattle.carrier.specs.LayoutLaw.{IsLayout}
@@ -76,8 +76,37 @@ FloorRead layout t shown None = shown ≡ None
 FloorRead layout t shown (Some floor) =
     (low : ℕ) × (shown ≡ Some low) × (floor_read layout (received layout t) (length (pulled t)) low ≡ Some floor)
 
--- This datagram, which comes after this trace, is read as it was meant.
-pub record Reads (layout : Layout) (t : Trace Entry) (datagram : List ℕ) (meant : Datagram) : Type 0 where
+-- ---- where the numbers lie that were meant
+
+-- a number lies at most so far below a reference, and at most so far above it
+abbrev pub Around : ℕ → ℕ → ℕ → ℕ → Type 0
+Around reference below above n = (reference ≤ n + below) × (n ≤ reference + above)
+
+-- a part lies around the least part that isn't drained; where transmissions are told, the one that
+-- carries it lies around the greatest one that was seen
+abbrev pub LoadNear : ℕ → Layout → Trace Entry → Option Carried → Type 0
+LoadNear late layout t None = Unit {0}
+LoadNear late layout t (Some c) =
+    Around (next_part layout (received layout t) (length (pulled t)))
+    (layout.bounds.windows.window + late) (2 * layout.bounds.windows.window) c.part
+    × (layout.tells_parts ≡ false
+    → Around (last_seen layout (received layout t)) late layout.bounds.windows.span c.transmission)
+
+-- a floor lies around the same part, or transmission
+abbrev pub FloorNear : ℕ → Layout → Trace Entry → Option ℕ → Type 0
+FloorNear late layout t None = Unit {0}
+FloorNear late layout t (Some floor) =
+    Around (if layout.tells_parts then next_part layout (received layout t) (length (pulled t)) else last_seen layout (received layout t))
+    (ahead layout.tells_parts layout.bounds.windows + late) (ahead layout.tells_parts layout.bounds.windows) floor
+
+-- a number told is that of the last part cut, or transmission made, or lies below it
+abbrev pub TellingNear : ℕ → Layout → Trace Entry → Telling → Type 0
+TellingNear late layout t telling =
+    Around (told_reference layout (acts layout t))
+    (ahead layout.tells_parts layout.bounds.windows + layout.bounds.tell + late) 0 (named_in telling)
+
+-- This datagram, which comes after this trace, is read as it was meant, and its numbers lie there.
+pub record Reads (late : ℕ) (layout : Layout) (t : Trace Entry) (datagram : List ℕ) (meant : Datagram) : Type 0 where
   pub shown : Shown
   pub shows : reading layout datagram ≡ Shows shown
   pub window : shown.window ≡ Some layout.bounds.windows.window
@@ -85,13 +114,16 @@ pub record Reads (layout : Layout) (t : Trace Entry) (datagram : List ℕ) (mean
   pub tells : is_some shown.telling ≡ meant.tells
   pub telling : TellingRead layout t shown.telling meant.telling
   pub floor : FloorRead layout t shown.floor meant.floor
+  pub load_near : LoadNear late layout t meant.load
+  pub telling_near : TellingNear late layout t meant.telling
+  pub floor_near : FloorNear late layout t meant.floor
 
--- Each datagram that came in time was read as it was meant.
+-- Each datagram that came in time was read as it was meant, and its numbers lay within the margins.
 abbrev pub AllRead : ℕ → (Role → Layout) → Trace Step → Type 0
 AllRead late layouts Start = Unit {0}
 AllRead late layouts (w ▷ At side (In now datagram took)) =
     ((k : ℕ) → k < late → SentAgo (other side) w k datagram
-    → (f : Datagram) × MeantAgo layouts (other side) w k f × Reads (layouts side) (half side w) datagram f)
+    → (f : Datagram) × MeantAgo layouts (other side) w k f × Reads late (layouts side) (half side w) datagram f)
     × AllRead late layouts w
 AllRead late layouts (w ▷ e) = AllRead late layouts w
 

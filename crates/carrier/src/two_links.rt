@@ -15,7 +15,7 @@ ghost use Rattle.carrier.specs.TwoLinks.{AllRead, CutsNear, Enough, KnownWereSee
 
 /// Two ends of a link, whether parts are told or transmissions, joined by a network that loses, copies and reorders datagrams
 /// and makes none, and that brings none too late: each datagram is read as it was meant, whatever
-/// numbers share its low parts; a part that is settled at one end was accepted at the other, with
+/// numbers share its low parts, and its numbers lie within the margins; a part that is settled at one end was accepted at the other, with
 /// the same bytes; and the bytes that one end passed, or pulled, are the first of those that the
 /// other was given. No part below the lowest unsettled one is missing at the other end, and the
 /// parts that were cut never run more than two windows ahead of those that were drained. Where

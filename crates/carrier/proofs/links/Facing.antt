@@ -62,6 +62,9 @@ facing late layouts s h = record {
 pub same_window : (late : ℕ) (l m : Layout) → Facing late l m → m.bounds.windows.window ≡ l.bounds.windows.window
 same_window late l m f = ap (λ (b : Bounds). b.windows.window) f.bounds
 
+pub same_span : (late : ℕ) (l m : Layout) → Facing late l m → m.bounds.windows.span ≡ l.bounds.windows.span
+same_span late l m f = ap (λ (b : Bounds). b.windows.span) f.bounds
+
 pub same_tell : (late : ℕ) (l m : Layout) → Facing late l m → m.bounds.tell ≡ l.bounds.tell
 same_tell late l m f = ap (λ (b : Bounds). b.tell) f.bounds
 

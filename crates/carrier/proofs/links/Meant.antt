@@ -6,11 +6,11 @@ use Rattle.carrier.specs.Layout.{Layout, Carried, Datagram, Telling, named_in, r
 use Rattle.carrier.specs.Receiving.{received}
 use Rattle.carrier.specs.Sending.{acts, told_reference}
 use Rattle.carrier.specs.LayoutLaw.{shown_of, load_shown, telling_shown, low_part}
-use Rattle.carrier.specs.TwoLinks.{Reads, LoadRead, TellingRead, FloorRead}
+use Rattle.carrier.specs.TwoLinks.{Reads, LoadRead, TellingRead, FloorRead, LoadNear, FloorNear}
 use Rattle.carrier.proofs.links.Invariant.{FliesLoad, LowFloor, Told}
 use Rattle.carrier.proofs.links.Facing.{Facing, same_window}
 use Rattle.carrier.proofs.links.Hears.{named_with, with_again, with_own}
-use Rattle.carrier.proofs.links.Reading.{arrives, floor_is, named_is}
+use Rattle.carrier.proofs.links.Reading.{arrives, floor_is, floor_lies, named_is, named_lies, part_lies, transmission_lies}
 use Rattle.carrier.proofs.links.Ends.{Both}
 use Rattle.carrier.proofs.links.Comes.{reading_is}
 
@@ -30,6 +30,17 @@ module _ (late : ℕ) (l m : Layout) (t u : Trace Entry) (S R : ℕ → Datagram
   low_is None fly = refl
   low_is (Some x) fly = (low_part m x, refl, floor_is late m l g (acts m u) (received l t) (length (pulled t)) k h.there h.back.now soon x fly)
 
+  load_lies : (load : Option Carried) → FliesLoad m.bounds.windows m.own k (acts m u) load → LoadNear late l t load
+  load_lies None fly = tt
+  load_lies (Some c) fly = (
+    part_lies late m l g (acts m u) (received l t) (length (pulled t)) k h.there h.back.now soon c fly,
+    λ e. transmission_lies late m l g (acts m u) (received l t) (length (pulled t)) k h.there h.back.now soon c fly e,
+  )
+
+  low_lies : (floor : Option ℕ) → LowFloor m.tells_parts m.bounds.windows m.own k (acts m u) floor → FloorNear late l t floor
+  low_lies None fly = tt
+  low_lies (Some x) fly = floor_lies late m l g (acts m u) (received l t) (length (pulled t)) k h.there h.back.now soon x fly
+
   tells_is : (b : Bool) (telling : Telling) → is_some (telling_shown m b telling) ≡ b
   tells_is true telling = refl
   tells_is false telling = refl
@@ -43,7 +54,7 @@ module _ (late : ℕ) (l m : Layout) (t u : Trace Entry) (S R : ℕ → Datagram
     with_again (named_in telling) (low_part m (named_in telling)) telling ∙ with_own telling,
   )
 
-  pub meant_is : (datagram : List ℕ) → U k datagram → (d : Datagram) × R k d × Reads l t datagram d
+  pub meant_is : (datagram : List ℕ) → U k datagram → (d : Datagram) × R k d × Reads late l t datagram d
   meant_is datagram sent =
       let it = h.means_there k datagram sent in (
         it.0,
@@ -56,5 +67,8 @@ module _ (late : ℕ) (l m : Layout) (t u : Trace Entry) (S R : ℕ → Datagram
           tells = tells_is it.0.tells it.0.telling;
           telling = telling_is it.0.tells it.0.telling (h.out.tellings k it.0 it.1);
           floor = low_is it.0.floor (h.back.floors k it.0 it.1);
+          load_near = load_lies it.0.load (h.back.loads k it.0 it.1);
+          telling_near = named_lies late l m f (acts l t) (received m u) (length (pulled u)) k h.here h.out.now soon it.0.telling (h.out.tellings k it.0 it.1);
+          floor_near = low_lies it.0.floor (h.back.floors k it.0 it.1);
         },
       )

@@ -147,7 +147,7 @@ module _ (late : ℕ) (layouts : Role → Layout) (margins : Margins late layout
   -- what comes now was meant so
   abbrev pub NowRead : Trace Step → Role → Entry → Type 0
   NowRead w side (In now datagram took) =
-      (k : ℕ) → k < late → SentAgo (other side) w k datagram → (f : Datagram) × MeantAgo layouts (other side) w k f × Reads (layouts side) (half side w) datagram f
+      (k : ℕ) → k < late → SentAgo (other side) w k datagram → (f : Datagram) × MeantAgo layouts (other side) w k f × Reads late (layouts side) (half side w) datagram f
   NowRead w side e = Unit {0}
 
   read_more : (w : Trace Step) (side : Role) (e : Entry) → NowRead w side e → AllRead late layouts w → AllRead late layouts (w ▷ At side e)
