@@ -16,19 +16,19 @@ const HOLD: usize = 1_048_576;
 #[derive(Drop)]
 pub struct Hold {
     rings: Rings,
-    weight: usize,
+    counted: usize,
 }
 
 impl Model for Hold {
     ghost use Rattle.std.specs.Prelude.{◌≡◌, ◌≤◌, List};
-    ghost use Rattle.hold_queue.specs.Held.{Pdu};
+    ghost use Rattle.hold_queue.specs.Held.{Pdu, weight};
     ghost use Rattle.hold_queue.specs.Stored.{held_in, IsStored};
 
     ghost Value = { List Pdu };
 
     ghost view = { λ s. held_in s.rings.records.items s.rings.bytes.items };
 
-    ghost invariant = { λ s. IsStored s.rings.records.items s.rings.bytes.items × (s.rings.records.capacity ≡ 131072) × (s.rings.bytes.capacity ≡ 2097152) × (s.weight ≡ weight (held_in s.rings.records.items s.rings.bytes.items)) × (s.weight ≤ 1048576) };
+    ghost invariant = { λ s. IsStored s.rings.records.items s.rings.bytes.items × (s.rings.records.capacity ≡ 131072) × (s.rings.bytes.capacity ≡ 2097152) × (s.counted ≡ weight (held_in s.rings.records.items s.rings.bytes.items)) × (s.counted ≤ 1048576) };
 }
 
 impl Hold {
@@ -41,7 +41,7 @@ impl Hold {
     {
         Ok(Hold {
             rings: Rings::new(alloc)?,
-            weight: 0,
+            counted: 0,
         })
     }
 
@@ -50,7 +50,7 @@ impl Hold {
         ensures room { result ≡ 1048576 - weight self.now }
         ensures within { result + weight self.now ≡ 1048576 }
     {
-        HOLD - self.weight
+        HOLD - self.counted
     }
 
     /// Holds a PDU of a channel, which came at this place. Its cost is that of its bytes: what was
@@ -60,11 +60,9 @@ impl Hold {
         requires fits { 16 + length pdu.now + weight self.old ≤ 1048576 }
         ensures { self.new ≡ self.old ++ pdu_of id at pdu.now ∷ [] }
     {
-        if !self.rings.has_place(pdu.len()) {
-            self.rings.close_up(None);
-        }
+        self.rings.make_place(pdu.len());
         self.rings.append(id, at, pdu);
-        self.weight += 16 + pdu.len();
+        self.counted += 16 + pdu.len();
     }
 
     /// Gives the oldest PDU of a channel, with its place and length, and holds it no longer. Behind
@@ -79,7 +77,7 @@ impl Hold {
         let length = record.length as usize;
         self.rings.copy_at(place, &mut out[..length]);
         self.rings.forget(index);
-        self.weight -= 16 + length;
+        self.counted -= 16 + length;
         Some((record.at, length))
     }
 
@@ -88,6 +86,6 @@ impl Hold {
         ensures { self.new ≡ without id self.old }
     {
         self.rings.close_up(Some(id));
-        self.weight = self.rings.weight();
+        self.counted = self.rings.weight();
     }
 }

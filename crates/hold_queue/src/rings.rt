@@ -39,11 +39,27 @@ impl Rings {
     }
 
     /// Whether one more PDU of so many bytes finds a place behind.
-    pub fn has_place(&self, count: usize) -> bool
+    fn has_place(&self, count: usize) -> bool
         ensures { IsTrue result ↔ ((length self.now.records.items < self.now.records.capacity) × (length self.now.bytes.items + count ≤ self.now.bytes.capacity)) }
     {
         self.records.len() < self.records.capacity()
             && count <= self.bytes.capacity() - self.bytes.len()
+    }
+
+    /// Makes a place behind for one more PDU of so many bytes, where the rings hold few enough.
+    pub fn make_place(&mut self, count: usize)
+        requires stored { IsStored self.old.records.items self.old.bytes.items }
+        requires room { (self.old.records.capacity ≡ 131072) × (self.old.bytes.capacity ≡ 2097152) }
+        requires fits { 16 + count + weight (held_in self.old.records.items self.old.bytes.items) ≤ 1048576 }
+        ensures held { held_in self.new.records.items self.new.bytes.items ≡ held_in self.old.records.items self.old.bytes.items }
+        ensures stored { IsStored self.new.records.items self.new.bytes.items }
+        ensures room { (self.new.records.capacity ≡ 131072) × (self.new.bytes.capacity ≡ 2097152) }
+        ensures place { (length self.new.records.items < 131072) × (length self.new.bytes.items + count ≤ 2097152) }
+    {
+        if self.has_place(count) {
+            return;
+        }
+        self.close_up(None);
     }
 
     /// Puts a PDU behind the others.
