@@ -1,17 +1,15 @@
 //! The laws of links, cited at two machines.
 
 use super::*;
+use mt_base::NoMemory;
 use std::test::*;
 
 #[test]
-fn laws_of_links_hold(rt: HostRuntime) {
+fn laws_of_links_hold(rt: HostRuntime) -> Result<(), NoMemory> {
     first_links_keep();
     first_links_join();
-    let Ok(server) = Udp1Core::new(rt.alloc(), 1, 2, 0x0001) else {
-        return;
-    };
-    let Ok(client) = Udp1Core::new(rt.alloc(), 2, 1, 0x0001) else {
-        return;
-    };
+    let server = Udp1Core::new(rt.alloc(), 1, 2, 0x0001)?;
+    let client = Udp1Core::new(rt.alloc(), 2, 1, 0x0001)?;
     pulled_was_given(&server, &client);
+    Ok(())
 }

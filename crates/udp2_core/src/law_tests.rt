@@ -1,17 +1,15 @@
 //! The laws of links, cited at two machines.
 
 use super::*;
+use mt_base::NoMemory;
 use std::test::*;
 
 #[test]
-fn laws_of_links_hold(rt: HostRuntime) {
+fn laws_of_links_hold(rt: HostRuntime) -> Result<(), NoMemory> {
     second_links_keep();
     second_links_join();
-    let Ok(server) = Udp2Core::new(rt.alloc()) else {
-        panic!();
-    };
-    let Ok(client) = Udp2Core::new(rt.alloc()) else {
-        panic!();
-    };
+    let server = Udp2Core::new(rt.alloc())?;
+    let client = Udp2Core::new(rt.alloc())?;
     pulled_was_given(&server, &client);
+    Ok(())
 }
