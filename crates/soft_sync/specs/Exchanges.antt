@@ -16,9 +16,10 @@ abbrev pub has : Kind → Kinds → Bool
 has Reliable kinds = kinds.reliable
 has Lossy kinds = kinds.lossy
 
-abbrev pub with_kind : Kind → Kinds → Kinds
-with_kind Reliable kinds = record kinds { reliable = true }
-with_kind Lossy kinds = record kinds { lossy = true }
+-- the kinds, of which this one is set so
+abbrev pub set_kind : Kind → Bool → Kinds → Kinds
+set_kind Reliable b kinds = record kinds { reliable = b }
+set_kind Lossy b kinds = record kinds { lossy = b }
 
 -- ---- requests and answers
 
@@ -115,7 +116,7 @@ with_answer (suc number) change (x ∷ xs) = x ∷ with_answer number change xs
 
 -- the answer names this kind too
 abbrev pub naming : Kind → Answer → Answer
-naming kind answer = record answer { named = with_kind kind answer.named }
+naming kind answer = record answer { named = set_kind kind true answer.named }
 
 -- the answer is given
 abbrev pub giving : Answer → Answer

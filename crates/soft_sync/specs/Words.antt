@@ -102,11 +102,6 @@ told_of id channels = if is_some (lookup (nat_eq id) channels) then channels els
 abbrev pub HasPlace : ℕ → List (ℕ × Bool) → Type 0
 HasPlace id channels = IsSome (lookup (nat_eq id) channels) ⊎ (length channels < 256)
 
--- the kinds, of which this one is set so
-abbrev pub set_kind : Kind → Bool → Kinds → Kinds
-set_kind Reliable b kinds = record kinds { reliable = b }
-set_kind Lossy b kinds = record kinds { lossy = b }
-
 -- a request that names these kinds, and lists no channel yet
 abbrev pub begun_of : Bool → Bool → Exchange
 begun_of reliable lossy =

@@ -29,8 +29,8 @@ impl Exchanges {
     ghost use Rattle.std.specs.List.{find};
     ghost use Rattle.soft_sync.specs.Table.{IsRoomy, under, row_of};
     ghost use Rattle.std.specs.Prelude.{◌-◌};
-    ghost use Rattle.std.specs.List.{IsDistinct};
     ghost use Rattle.std.specs.Map.{keys_of};
+    ghost use Rattle.soft_sync.specs.Words.{first_repeated};
 
     /// No requests, with room for 256, and for 256 channels.
     pub fn new(alloc: Global) -> Result<Exchanges, NoMemory>
@@ -43,46 +43,65 @@ impl Exchanges {
         })
     }
 
-    /// A request that names these kinds, and lists no channel yet. Its number is given; none where
-    /// there are 256.
-    pub fn begin(&mut self, named: Kinds) -> Option<u32>
+    /// How many requests there are.
+    pub fn count(&self) -> usize
+        ensures { result ≡ length self.now.rows.items }
+    {
+        self.rows.len()
+    }
+
+    /// A request that names these kinds, and lists no channel yet. Its number is given.
+    pub fn begin(&mut self, named: Kinds) -> u32
         requires roomy { IsRoomy self.old.rows.items self.old.listings.entries (vec_capacity self.old.rows) (spare self.old.listings) }
-        ensures begun { IfSome result (λ number. (number ≡ length self.old.rows.items) × (self.new.rows.items ≡ self.old.rows.items ++ row_of named ∷ [])) }
-        ensures none { IfNone result ((length self.old.rows.items ≡ 256) × (self.new.rows.items ≡ self.old.rows.items)) }
+        requires few { length self.old.rows.items < 256 }
+        ensures number { result ≡ length self.old.rows.items }
+        ensures rows { self.new.rows.items ≡ self.old.rows.items ++ row_of named ∷ [] }
         ensures listings { self.new.listings ≡ self.old.listings }
         ensures roomy { IsRoomy self.new.rows.items self.new.listings.entries (vec_capacity self.new.rows) (spare self.new.listings) }
     {
-        let number = self.rows.len();
-        if number >= LIMIT {
-            return None;
-        }
+        let number = self.rows.len() as u32;
         let row = Row {
             named,
             is_given: false,
             answer: Kinds::NONE,
         };
+        // There is room for each request, so that no memory is taken here.
         match self.rows.push(row) {
-            Ok(()) => Some(number as u32),
+            Ok(()) => number,
+            Err(_) => unreachable!(),
+        }
+    }
+
+    /// The last request lists this channel too.
+    pub fn list(&mut self, kind: Kind, id: u32)
+        requires roomy { IsRoomy self.old.rows.items self.old.listings.entries (vec_capacity self.old.rows) (spare self.old.listings) }
+        requires begun { 0 < length self.old.rows.items }
+        requires fit { length self.old.listings.entries < 256 }
+        requires once { lookup (nat_eq id) self.old.listings.entries ≡ None }
+        ensures rows { self.new.rows ≡ self.old.rows }
+        ensures listings { self.new.listings.entries ≡ self.old.listings.entries ++ under (length self.old.rows.items - 1) kind (id ∷ []) }
+        ensures roomy { IsRoomy self.new.rows.items self.new.listings.entries (vec_capacity self.new.rows) (spare self.new.listings) }
+    {
+        let number = self.rows.len() as u32 - 1;
+        // There is room for each channel, so that no memory is taken here.
+        match self.listings.insert(id, Listing { number, kind }) {
+            Ok(_) => {}
             Err(_) => unreachable!(),
         }
     }
 
     /// The last request lists these channels too.
-    pub fn list(&mut self, kind: Kind, ids: &[u32])
+    pub fn list_all(&mut self, kind: Kind, ids: &[u32])
         requires roomy { IsRoomy self.old.rows.items self.old.listings.entries (vec_capacity self.old.rows) (spare self.old.listings) }
         requires begun { 0 < length self.old.rows.items }
         requires fit { length self.old.listings.entries + length ids.now ≤ 256 }
-        requires once { IsDistinct nat_eq (keys_of self.old.listings.entries ++ ids.now) }
+        requires once { first_repeated (keys_of self.old.listings.entries) ids.now ≡ None }
         ensures rows { self.new.rows ≡ self.old.rows }
         ensures listings { self.new.listings.entries ≡ self.old.listings.entries ++ under (length self.old.rows.items - 1) kind ids.now }
         ensures roomy { IsRoomy self.new.rows.items self.new.listings.entries (vec_capacity self.new.rows) (spare self.new.listings) }
     {
-        let number = self.rows.len() as u32 - 1;
         for id in ids {
-            match self.listings.insert(*id, Listing { number, kind }) {
-                Ok(_) => {}
-                Err(_) => unreachable!(),
-            }
+            self.list(kind, *id);
         }
     }
 
@@ -91,7 +110,10 @@ impl Exchanges {
         requires kept { IsKept self.now.rows.items self.now.listings.entries }
         ensures { result ≡ listed id (exchanges_in self.now.rows.items self.now.listings.entries) }
     {
-        Some(self.listings.get(&id)?.kind)
+        match self.listings.get(&id) {
+            Some(listing) => Some(listing.kind),
+            None => None,
+        }
     }
 
     /// The kind under which a channel is listed, where the answer to its request names it.
@@ -99,8 +121,12 @@ impl Exchanges {
         requires kept { IsKept self.now.rows.items self.now.listings.entries }
         ensures { result ≡ moved id (exchanges_in self.now.rows.items self.now.listings.entries) }
     {
-        let listing = self.listings.get(&id)?;
-        let row = self.rows.get(listing.number as usize)?;
+        let Some(listing) = self.listings.get(&id) else {
+            return None;
+        };
+        let Some(row) = self.rows.get(listing.number as usize) else {
+            unreachable!()
+        };
         if row.answer.has(listing.kind) {
             Some(listing.kind)
         } else {
@@ -114,7 +140,10 @@ impl Exchanges {
         ensures { result ≡ behind (exchanges_in self.now.rows.items self.now.listings.entries) }
     {
         for number in 0..self.rows.len() {
-            if !self.rows[number].is_given {
+            let Some(row) = self.rows.get(number) else {
+                unreachable!()
+            };
+            if !row.is_given {
                 return Some(number as u32);
             }
         }
@@ -147,9 +176,10 @@ impl Exchanges {
         ensures rows { (length self.new.rows.items ≡ length self.old.rows.items) × (vec_capacity self.new.rows ≡ vec_capacity self.old.rows) }
         ensures listings { self.new.listings ≡ self.old.listings }
     {
-        if let Some(row) = self.rows.get_mut(number as usize) {
-            row.answer.set(kind, true);
-        }
+        let Some(row) = self.rows.get_mut(number as usize) else {
+            return;
+        };
+        row.answer.set(kind, true);
     }
 
     /// The answer to a request is given.
@@ -158,9 +188,10 @@ impl Exchanges {
         ensures rows { (length self.new.rows.items ≡ length self.old.rows.items) × (vec_capacity self.new.rows ≡ vec_capacity self.old.rows) }
         ensures listings { self.new.listings ≡ self.old.listings }
     {
-        if let Some(row) = self.rows.get_mut(number as usize) {
-            row.is_given = true;
-        }
+        let Some(row) = self.rows.get_mut(number as usize) else {
+            return;
+        };
+        row.is_given = true;
     }
 
     /// The first id that is listed.

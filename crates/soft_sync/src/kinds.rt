@@ -11,8 +11,7 @@ pub struct Kinds {
 
 impl Kinds {
     ghost use Rattle.std.specs.Prelude.{◌≡◌};
-    ghost use Rattle.soft_sync.specs.Exchanges.{has};
-    ghost use Rattle.soft_sync.specs.Words.{set_kind};
+    ghost use Rattle.soft_sync.specs.Exchanges.{has, set_kind};
 
     /// None of them.
     pub const NONE: Kinds = Kinds {

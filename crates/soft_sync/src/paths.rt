@@ -13,6 +13,9 @@ use std::marker::Model;
 /// The channels that a session has at most.
 const CHANNELS: usize = 256;
 
+/// The requests that are read at most.
+const REQUESTS: usize = 256;
+
 /// The version of the capabilities from which channels can be moved (MS-RDPEDYC section 2.2.1.1.3).
 const VERSION: u16 = 3;
 
@@ -45,8 +48,8 @@ impl Model for Paths {
 impl Paths {
     ghost use Rattle.std.specs.Prelude.{◌≡◌, ◌<◌, ◌++◌, ◌∷◌, ◌&&◌, [], length, not, nat_eq, None, Some, true, IfOk, OnOk, IfErr, OnErr, IfSome, IfNone, if◌then◌else◌};
     ghost use Rattle.indexmap.specs.IndexMap.{insert_entry};
-    ghost use Rattle.soft_sync.specs.Exchanges.{unanswered, listed, behind, names, is_named, is_given, with_channel, with_answer, naming, giving};
-    ghost use Rattle.soft_sync.specs.Words.{silence, outward, inward, placed, request_of, why_not, told_of, HasPlace, set_kind, begun_of, is_open_channel};
+    ghost use Rattle.soft_sync.specs.Exchanges.{unanswered, listed, behind, names, is_named, is_given, with_channel, with_answer, naming, giving, set_kind};
+    ghost use Rattle.soft_sync.specs.Words.{silence, outward, inward, placed, request_of, why_not, told_of, HasPlace, begun_of, is_open_channel};
     ghost use Rattle.std.specs.List.{find};
 
     /// The paths of an end that nothing was said to: the version is 0, and no tunnel is open. There
@@ -106,8 +109,8 @@ impl Paths {
             lossy: !lossy.is_empty(),
         };
         let _ = self.made.begin(named);
-        self.made.list(Kind::Reliable, reliable);
-        self.made.list(Kind::Lossy, lossy);
+        self.made.list_all(Kind::Reliable, reliable);
+        self.made.list_all(Kind::Lossy, lossy);
         Ok(())
     }
 
@@ -118,7 +121,10 @@ impl Paths {
         ensures few { IfSome result (λ number. number < 256) }
         ensures none { IfNone result ((length self.old.read ≡ 256) × (self.new ≡ self.old)) }
     {
-        self.read.begin(Kinds { reliable, lossy })
+        if self.read.count() >= REQUESTS {
+            return None;
+        }
+        Some(self.read.begin(Kinds { reliable, lossy }))
     }
 
     /// The request that was read last lists this channel under this kind: from now on what comes
@@ -132,7 +138,7 @@ impl Paths {
         if self.channels.get(&id).is_none() {
             self.set_channel(id, false);
         }
-        self.read.list(kind, &[id]);
+        self.read.list(kind, id);
     }
 
     /// Whether a request that was read names this kind.
@@ -256,11 +262,18 @@ impl Paths {
         ensures { result ≡ find (λ id. not (is_open_channel id self.now)) ids.now }
     {
         for id in ids {
-            if self.channels.get(id) != Some(&true) {
+            if !self.is_open_channel(*id) {
                 return Some(*id);
             }
         }
         None
+    }
+
+    /// Whether this is an open channel.
+    fn is_open_channel(&self, id: u32) -> bool
+        ensures { result ≡ is_open_channel id self.now }
+    {
+        self.channels.get(&id).copied().unwrap_or(false)
     }
 }
 
@@ -270,7 +283,8 @@ fn first_repeated(seen: &[u32], ids: &[u32]) -> Option<u32>
 {
     for index in 0..ids.len() {
         let id = ids[index];
-        if seen.contains(&id) || ids[..index].contains(&id) {
+        let before = &ids[..index];
+        if seen.contains(&id) || before.contains(&id) {
             return Some(id);
         }
     }

@@ -1,0 +1,5 @@
+pub mod Listed
+pub mod Answering
+pub mod Growing
+pub mod Finding
+pub mod Asking

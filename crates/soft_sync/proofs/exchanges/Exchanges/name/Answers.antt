@@ -1,0 +1,21 @@
+use Rattle.std.proofs.Common.{◌≡◌, Some, None, slice_get, slice_set, true, refl, ap, ◌∙◌}
+use Rattle.soft_sync.specs.Exchanges.{naming, set_kind}
+use Rattle.soft_sync.specs.Table.{exchanges_in}
+use Rattle.soft_sync.specs.declared.kinds.Kinds.{Kinds}
+use Rattle.soft_sync.proofs.Answering.{naming_at, changed_past, read_at, read_past}
+use Rattle.soft_sync.proofs.exchanges.Exchanges.name.Goals as goal
+
+pub returns-in_default-clause-exchanges : goal.returns-in_default-clause-exchanges
+returns-in_default-clause-exchanges c =
+    let s = c.args.self.now in
+    changed_past c.args.number 0 (naming c.args.kind) s.rows.items s.listings.entries (read_past s.rows.items s.rows.items c.args.number refl c.in_default.ensures.item.3)
+
+pub returns-clause-exchanges : goal.returns-clause-exchanges
+returns-clause-exchanges c =
+    let s = c.args.self.now in
+    let e = c.in-Some.ensures in
+    let row = c.in-Some.row.now in
+    let is : slice_get s.rows.items c.args.number ≡ Some row = read_at s.rows.items s.rows.items c.args.number row refl e.item.3.0 e.value in
+    let kinds : c.set.new.self ≡ set_kind c.args.kind true row.answer = c.set.ensures in
+    ap (λ (k : Kinds). exchanges_in (slice_set s.rows.items c.args.number (record row { answer = k })) s.listings.entries) kinds
+    ∙ naming_at c.args.number 0 c.args.kind s.rows.items s.listings.entries row is
