@@ -1,6 +1,6 @@
 -- Lemmas on the first id with a fault, in a list of ids.
 use Rattle.std.proofs.Common.{◌≡◌, ◌≢◌, ℕ, zero, suc, ◌+◌, ◌<◌, ◌≤◌, Bool, true, false, cond, not, nat_eq, List, [], ◌∷◌, ◌++◌, length, take, drop, All, slice_get, Option, Some, None, refl, sym, ap, ◌∙◌, subst, arith}
-use Rattle.std.specs.Prelude.{◌||◌}
+use Rattle.std.specs.Prelude.{◌||◌, is_some, IsSome}
 use Rattle.std.specs.Cmp.{nat_eq_equiv}
 use Rattle.std.specs.List.{IsDistinct, find, list_any}
 use Rattle.std.specs.Option.{option_or}
@@ -45,6 +45,15 @@ any-append p (x ∷ xs) ys = by (p x) (any-append p xs ys)
     by : (b : Bool) → list_any p (xs ++ ys) ≡ (list_any p xs || list_any p ys) → (b || list_any p (xs ++ ys)) ≡ ((b || list_any p xs) || list_any p ys)
     by true h = refl
     by false h = h
+
+pub any_left : (p : ℕ → Bool) (xs ys : List ℕ) → list_any p xs ≡ true → list_any p (xs ++ ys) ≡ true
+any_left p xs ys h = any-append p xs ys ∙ ap (λ b. b || list_any p ys) h
+
+pub any_right : (p : ℕ → Bool) (xs ys : List ℕ) → list_any p xs ≡ false → list_any p ys ≡ true → list_any p (xs ++ ys) ≡ true
+any_right p xs ys h k = any-append p xs ys ∙ ap (λ b. b || list_any p ys) h ∙ k
+
+pub any_neither : (p : ℕ → Bool) (xs ys : List ℕ) → list_any p xs ≡ false → list_any p ys ≡ false → list_any p (xs ++ ys) ≡ false
+any_neither p xs ys h k = any-append p xs ys ∙ ap (λ b. b || list_any p ys) h ∙ k
 
 pub any_flipped : (id : ℕ) (xs : List ℕ) → list_any (λ y. nat_eq y id) xs ≡ list_any (nat_eq id) xs
 any_flipped id [] = refl
@@ -122,3 +131,11 @@ module _ {X : Type 0} where
       by : (b : Bool) → cond b (Some e.1) (lookup (nat_eq id) es) ≡ None → (lookup (nat_eq id) es ≡ None → list_any (nat_eq id) (keys_of es) ≡ false) → (b || list_any (nat_eq id) (keys_of es)) ≡ false
       by true h others = cc
       by false h others = others h
+
+  -- an id with an entry is among the keys
+  pub has_key : (id : ℕ) (es : List (ℕ × X)) → IsSome (lookup (nat_eq id) es) → list_any (nat_eq id) (keys_of es) ≡ true
+  has_key id es some = by (list_any (nat_eq id) (keys_of es)) refl
+    where
+      by : (b : Bool) → list_any (nat_eq id) (keys_of es) ≡ b → list_any (nat_eq id) (keys_of es) ≡ true
+      by true e = e
+      by false e = absurd (let clash = sym (ap is_some (no_entry id es e)) ∙ some in cc)

@@ -107,3 +107,20 @@ keys_more n kind es ids = map-append (λ (e : ℕ × Listing). e.0) es (under n 
 pub under_more : (n : ℕ) (kind : Kind) (es : Listings) (ids : List ℕ) (id : ℕ) → (es ++ under n kind ids) ++ under n kind (id ∷ []) ≡ es ++ under n kind (ids ++ (id ∷ []))
 under_more n kind es ids id =
     append_assoc es (under n kind ids) (under n kind (id ∷ [])) ∙ ap (λ t. es ++ t) (sym (map-append (λ id. (id, record { number = n; kind = kind })) ids (id ∷ [])))
+
+-- a request that is begun, and lists channels under one kind and then under the other
+pub record IsMade (rows rows' : List Row) (row : Row) (es es' : Listings) (reliable lossy : List ℕ) : Type 0 where
+  pub rows_are : rows' ≡ rows ++ (row ∷ [])
+  pub listings_are : es' ≡ (es ++ under (length rows) Reliable reliable) ++ under (length rows) Lossy lossy
+
+pub made_by : (rows rows' : List Row) (row : Row) (es es' : Listings) (reliable lossy : List ℕ) → Below (length rows) es → IsMade rows rows' row es es' reliable lossy
+    → exchanges_from 0 rows' es' ≡ exchanges_from 0 rows es ++ (exchange_of row (map (λ id. (id, Reliable)) reliable ++ map (λ id. (id, Lossy)) lossy) ∷ [])
+made_by rows rows' row es es' reliable lossy below m =
+    ap (λ r. exchanges_from 0 r es') m.rows_are ∙ ap (λ l. exchanges_from 0 (rows ++ (row ∷ [])) l) m.listings_are ∙ made rows row es reliable lossy below
+
+pub last_number : (rows rows' : List Row) (row : Row) → rows' ≡ rows ++ (row ∷ []) → length rows' - 1 ≡ length rows
+last_number rows rows' row is = let e = ap (λ (r : List Row). length r) is ∙ length-append rows (row ∷ []) in omega (arith, e)
+
+pub length-listed : (n : ℕ) (es es' : Listings) (kind : Kind) (ids : List ℕ) → es' ≡ es ++ under n kind ids → length es' ≡ length es + length ids
+length-listed n es es' kind ids is =
+    ap (λ (l : Listings). length l) is ∙ length-append es (under n kind ids) ∙ ap (λ k. length es + k) (length-map ids (λ id. (id, record { number = n; kind = kind })))

@@ -3,7 +3,7 @@
 use Rattle.std.specs.Prelude.{◌==◌, ℕ, ◌+◌, ◌<◌, ◌⊎◌, IsSome, length, List, [], ◌∷◌, ◌++◌, map, nat_eq, nat_lt, Bool, true, false, not, ◌&&◌, ◌||◌, Option, Some, None, is_some, option_map, if◌then◌else◌}
 use Rattle.std.specs.Option.{option_or, unwrap_or}
 use Rattle.std.specs.List.{find, list_any}
-use Rattle.std.specs.Map.{lookup}
+use Rattle.std.specs.Map.{lookup, set_value}
 use Rattle.mt_base.specs.declared.kinds.Kind.{Kind}
 use Rattle.mt_base.specs.declared.kinds.Kind.TheVariants.{Reliable, Lossy}
 use Rattle.soft_sync.specs.declared.kinds.Kinds.{Kinds}
@@ -93,6 +93,12 @@ why_not reliable lossy w =
       (option_map TunnelNotOpen (first_closed reliable lossy w.opened))))
 
 -- ---- the ids that were told of
+
+-- a channel is told of: it is open, or isn't
+abbrev pub told : ℕ → Bool → List (ℕ × Bool) → List (ℕ × Bool)
+told id is_open channels =
+    if is_some (lookup (nat_eq id) channels) then set_value (nat_eq id) channels is_open
+    else channels ++ (id, is_open) ∷ []
 
 -- a channel that wasn't told of is told of, and isn't open
 abbrev pub told_of : ℕ → List (ℕ × Bool) → List (ℕ × Bool)

@@ -1,7 +1,7 @@
 //! The paths of channels.
 
-ghost use Rattle.std.specs.Prelude.{◌≡◌};
-ghost use Rattle.soft_sync.specs.Words.{first_repeated};
+ghost use Rattle.std.specs.Prelude.{◌≡◌, ◌++◌};
+ghost use Rattle.soft_sync.specs.Words.{first_repeated, is_empty};
 
 use crate::exchanges::Exchanges;
 use crate::kinds::{Kinds, Path, Placed, SyncRefusal};
@@ -47,9 +47,8 @@ impl Model for Paths {
 
 impl Paths {
     ghost use Rattle.std.specs.Prelude.{◌≡◌, ◌<◌, ◌++◌, ◌∷◌, ◌&&◌, [], length, not, nat_eq, None, Some, true, IfOk, OnOk, IfErr, OnErr, IfSome, IfNone, if◌then◌else◌};
-    ghost use Rattle.indexmap.specs.IndexMap.{insert_entry};
     ghost use Rattle.soft_sync.specs.Exchanges.{unanswered, listed, behind, names, is_named, is_given, with_channel, with_answer, naming, giving, set_kind};
-    ghost use Rattle.soft_sync.specs.Words.{silence, outward, inward, placed, request_of, why_not, told_of, HasPlace, begun_of, is_open_channel};
+    ghost use Rattle.soft_sync.specs.Words.{silence, outward, inward, placed, request_of, why_not, told, told_of, HasPlace, first_closed, begun_of, is_open_channel};
     ghost use Rattle.std.specs.List.{find};
 
     /// The paths of an end that nothing was said to: the version is 0, and no tunnel is open. There
@@ -83,8 +82,12 @@ impl Paths {
     /// This is now an open channel, or isn't.
     pub fn set_channel(&mut self, id: u32, is_open: bool)
         requires { HasPlace id self.old.channels }
-        ensures { self.new ≡ record self.old { channels = insert_entry nat_eq self.old.channels id is_open } }
+        ensures { self.new ≡ record self.old { channels = told id is_open self.old.channels } }
     {
+        if let Some(place) = self.channels.get_mut(&id) {
+            *place = is_open;
+            return;
+        }
         // There is room for each channel, so that no memory is taken here.
         match self.channels.insert(id, is_open) {
             Ok(_) => {}
@@ -105,8 +108,8 @@ impl Paths {
             return Err(why);
         }
         let named = Kinds {
-            reliable: !reliable.is_empty(),
-            lossy: !lossy.is_empty(),
+            reliable: !is_empty(reliable),
+            lossy: !is_empty(lossy),
         };
         let _ = self.made.begin(named);
         self.made.list_all(Kind::Reliable, reliable);
@@ -135,9 +138,7 @@ impl Paths {
         requires place { HasPlace id self.old.channels }
         ensures { self.new ≡ record self.old { channels = told_of id self.old.channels; read = with_channel id kind self.old.read } }
     {
-        if self.channels.get(&id).is_none() {
-            self.set_channel(id, false);
-        }
+        self.tell_of(id);
         self.read.list(kind, id);
     }
 
@@ -225,6 +226,17 @@ impl Paths {
         }
     }
 
+    /// The session has this channel, which isn't open where nothing else was told of it.
+    fn tell_of(&mut self, id: u32)
+        requires { HasPlace id self.old.channels }
+        ensures { self.new ≡ record self.old { channels = told_of id self.old.channels } }
+    {
+        if self.channels.get(&id).is_some() {
+            return;
+        }
+        self.set_channel(id, false);
+    }
+
     /// Why a request that lists these channels is not made.
     fn refusal(&self, reliable: &[u32], lossy: &[u32]) -> Option<SyncRefusal>
         ensures { result ≡ why_not reliable.now lossy.now self.now }
@@ -234,7 +246,7 @@ impl Paths {
                 version: self.version,
             });
         }
-        if reliable.is_empty() && lossy.is_empty() {
+        if are_empty(reliable, lossy) {
             return Some(SyncRefusal::Empty);
         }
         if let Some(id) = self.first_unknown(reliable).or(self.first_unknown(lossy)) {
@@ -246,13 +258,21 @@ impl Paths {
         if let Some(id) = self.made.first_listed(reliable).or(self.made.first_listed(lossy)) {
             return Some(SyncRefusal::AlreadyListed { id });
         }
-        if !reliable.is_empty() && !self.opened.reliable {
-            return Some(SyncRefusal::TunnelNotOpen {
-                kind: Kind::Reliable,
-            });
+        if let Some(kind) = self.first_closed(reliable, lossy) {
+            return Some(SyncRefusal::TunnelNotOpen { kind });
         }
-        if !lossy.is_empty() && !self.opened.lossy {
-            return Some(SyncRefusal::TunnelNotOpen { kind: Kind::Lossy });
+        None
+    }
+
+    /// The first kind with ids that has no open tunnel.
+    fn first_closed(&self, reliable: &[u32], lossy: &[u32]) -> Option<Kind>
+        ensures { result ≡ first_closed reliable.now lossy.now self.now.opened }
+    {
+        if !is_empty(reliable) && !self.opened.reliable {
+            return Some(Kind::Reliable);
+        }
+        if !is_empty(lossy) && !self.opened.lossy {
+            return Some(Kind::Lossy);
         }
         None
     }
@@ -277,6 +297,20 @@ impl Paths {
     }
 }
 
+/// Whether a list of ids has none.
+fn is_empty(ids: &[u32]) -> bool
+    ensures { result ≡ is_empty ids.now }
+{
+    ids.is_empty()
+}
+
+/// Whether two lists of ids have none.
+fn are_empty(reliable: &[u32], lossy: &[u32]) -> bool
+    ensures { result ≡ is_empty (reliable.now ++ lossy.now) }
+{
+    if is_empty(reliable) { is_empty(lossy) } else { false }
+}
+
 /// The first id that stands before it too, or among those that were seen.
 fn first_repeated(seen: &[u32], ids: &[u32]) -> Option<u32>
     ensures { result ≡ first_repeated seen.now ids.now }
@@ -284,7 +318,10 @@ fn first_repeated(seen: &[u32], ids: &[u32]) -> Option<u32>
     for index in 0..ids.len() {
         let id = ids[index];
         let before = &ids[..index];
-        if seen.contains(&id) || before.contains(&id) {
+        if seen.contains(&id) {
+            return Some(id);
+        }
+        if before.contains(&id) {
             return Some(id);
         }
     }
