@@ -98,7 +98,7 @@ fn writes_pdus(rt: HostRuntime) {
         bytes: b"a",
     };
     assert_eq!(rt; write_dvc(&first, &mut out), Ok(5));
-    assert_eq!(rt; out, [0x24, 1, 0, 1, 0x61, 0x6c, 0x73, 0]);
+    assert_eq!(rt; out, [0x24, 1, 0, 1, 0x61, 0x65, 0x73, 0]);
     assert_eq!(rt;
         write_dvc(&first, &mut out[..4]),
         Err(NoRoom { at: 4, need: 1 })
