@@ -5,7 +5,7 @@ use Rattle.std.specs.Fmt.{decimal}
 use Rattle.mt_base.specs.declared.kinds.Kind.{Kind}
 use Rattle.mt_base.specs.declared.kinds.Kind.TheVariants.{Reliable, Lossy}
 use Rattle.dvc_pdus.specs.declared.pdu.DvcRefusal.{DvcRefusal}
-use Rattle.dvc_pdus.specs.declared.pdu.DvcRefusal.TheVariants as refusal
+use Rattle.dvc_pdus.specs.Names.{dvc_name, dvc_place}
 use Rattle.dvc_pdus.specs.Value.{Pdu, Caps, CreateRequest, CreateResponse, DataFirst, Data, CompressedFirst, Compressed, Close, SyncRequest, SyncResponse, ChannelList}
 use Rattle.mt_show.specs.Words.{number_field, digits_field, wide_field, hex_field, where_there, fault_words}
 
@@ -54,32 +54,6 @@ channel_words (SyncRequest flags tunnels lists) =
     ∷ map list_word lists
 channel_words (SyncResponse types) = codes "syncanswer" ∷ map kind_name types
 
--- a fault: its name, and its place
-abbrev pub channel_reason : DvcRefusal → List ℕ
-channel_reason (refusal.Short short) = codes "Short"
-channel_reason (refusal.TooLong at) = codes "TooLong"
-channel_reason (refusal.UnknownCommand at) = codes "UnknownCommand"
-channel_reason (refusal.BadCbId at) = codes "BadCbId"
-channel_reason (refusal.BadLen at) = codes "BadLen"
-channel_reason (refusal.NameNotEnded at) = codes "NameNotEnded"
-channel_reason (refusal.BadName at) = codes "BadName"
-channel_reason (refusal.LengthTooSmall at) = codes "LengthTooSmall"
-channel_reason (refusal.SyncLength at) = codes "SyncLength"
-channel_reason (refusal.BadTunnelType at) = codes "BadTunnelType"
-channel_reason (refusal.Trailing at) = codes "Trailing"
-
-abbrev pub channel_place : DvcRefusal → ℕ
-channel_place (refusal.Short short) = short.at
-channel_place (refusal.TooLong at) = at
-channel_place (refusal.UnknownCommand at) = at
-channel_place (refusal.BadCbId at) = at
-channel_place (refusal.BadLen at) = at
-channel_place (refusal.NameNotEnded at) = at
-channel_place (refusal.BadName at) = at
-channel_place (refusal.LengthTooSmall at) = at
-channel_place (refusal.SyncLength at) = at
-channel_place (refusal.BadTunnelType at) = at
-channel_place (refusal.Trailing at) = at
-
+-- a fault
 abbrev pub channel_refusal_words : DvcRefusal → List (List ℕ)
-channel_refusal_words r = fault_words (channel_reason r) (channel_place r)
+channel_refusal_words r = fault_words (dvc_name r) (dvc_place r)

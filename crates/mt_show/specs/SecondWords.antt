@@ -2,7 +2,7 @@
 -- of one.
 use Rattle.std.specs.Prelude.{ℕ, Bool, List, [], ◌∷◌, ◌++◌, length, flat_map, codes, Option, Some, None, if◌then◌else◌}
 use Rattle.carrier.specs.declared.second_layout.Refusal2.{Refusal2}
-use Rattle.carrier.specs.declared.second_layout.Refusal2.TheVariants as refusal
+use Rattle.carrier.specs.Names.{second_name, second_place}
 use Rattle.coded_vector.specs.CodedBytes.{flags_of}
 use Rattle.udp2_packets.specs.Value.{Ack, Vector, Delay, Body, NoBody, DataBody, DummyBody, Packet}
 use Rattle.udp2_packets.specs.Layout.{ack_in, vector_in, number_in, kind}
@@ -54,22 +54,6 @@ second_words p =
     ++ (words_there vector_words (vector_in p.telling)
     ++ last_words p.body))))))
 
--- a fault: its name, and its place
-abbrev pub second_reason : Refusal2 → List ℕ
-second_reason (refusal.Short short) = codes "Short"
-second_reason (refusal.ShortLength at) = codes "ShortLength"
-second_reason (refusal.BadType at) = codes "BadType"
-second_reason (refusal.UnknownFlag at) = codes "UnknownFlag"
-second_reason (refusal.AckAndVector at) = codes "AckAndVector"
-second_reason (refusal.Trailing at) = codes "Trailing"
-
-abbrev pub second_place : Refusal2 → ℕ
-second_place (refusal.Short short) = short.at
-second_place (refusal.ShortLength at) = at
-second_place (refusal.BadType at) = at
-second_place (refusal.UnknownFlag at) = at
-second_place (refusal.AckAndVector at) = at
-second_place (refusal.Trailing at) = at
-
+-- a fault
 abbrev pub second_refusal_words : Refusal2 → List (List ℕ)
-second_refusal_words r = fault_words (second_reason r) (second_place r)
+second_refusal_words r = fault_words (second_name r) (second_place r)

@@ -6,9 +6,8 @@ use Rattle.mt_base.specs.declared.kinds.Kind.{Kind}
 use Rattle.mt_base.specs.declared.kinds.Kind.TheVariants.{Reliable, Lossy}
 use Rattle.tunnel_pdus.specs.declared.part.Part.{Part}
 use Rattle.tunnel_pdus.specs.declared.part.Part.TheVariants.{Whole, More}
-use Rattle.tunnel_pdus.specs.declared.part.TunnelReason.{TunnelReason}
-use Rattle.tunnel_pdus.specs.declared.part.TunnelReason.TheVariants as reason
 use Rattle.tunnel_pdus.specs.declared.part.TunnelRefusal.{TunnelRefusal}
+use Rattle.tunnel_pdus.specs.Names.{tunnel_name, tunnel_place}
 use Rattle.tunnel_pdus.specs.Value.{Pdu, CreateRequest, CreateResponse, Data, Frame, Request, Response, Channel}
 use Rattle.mt_show.specs.Words.{number_field, wide_field, hex_field, fault_words}
 
@@ -35,17 +34,6 @@ frame_words (Response id hr) =
     codes "response" ∷ number_field (codes "id=") id ∷ wide_field (codes "hr=") hr ∷ []
 frame_words (Channel bytes) = codes "channel" ∷ hex_field (codes "bytes=") bytes ∷ []
 
--- a fault's name
-abbrev pub stream_reason : TunnelReason → List ℕ
-stream_reason reason.BadAction = codes "BadAction"
-stream_reason reason.BadFlags = codes "BadFlags"
-stream_reason reason.BadHeaderLength = codes "BadHeaderLength"
-stream_reason reason.BadSubHeader = codes "BadSubHeader"
-stream_reason reason.WrongLength = codes "WrongLength"
-stream_reason reason.TooLong = codes "TooLong"
-stream_reason reason.BadKind = codes "BadKind"
-stream_reason reason.BadProtocol = codes "BadProtocol"
-
 -- how many bytes stand behind a value, where any do
 abbrev pub then_words : ℕ → List (List ℕ)
 then_words zero = []
@@ -55,4 +43,4 @@ then_words (suc n) = codes "then" ∷ decimal (suc n) ∷ []
 abbrev pub front_words : {V : Type 0} → (V → List (List ℕ)) → ℕ → Result (Part V) TunnelRefusal → List (List ℕ)
 front_words words long (Ok (Whole value used)) = words value ++ then_words (long - used)
 front_words words long (Ok (More need)) = codes "more" ∷ decimal need ∷ []
-front_words words long (Err r) = fault_words (stream_reason r.reason) r.at
+front_words words long (Err r) = fault_words (tunnel_name r) (tunnel_place r)

@@ -8,7 +8,7 @@ use Rattle.mt_script.specs.Spelling.{hex_text}
 use Rattle.ack_vector.specs.declared.reader.Run.{Run}
 use Rattle.ack_vector.specs.Elements.{run_of}
 use Rattle.carrier.specs.declared.first_layout.Refusal1.{Refusal1}
-use Rattle.carrier.specs.declared.first_layout.Refusal1.TheVariants as refusal
+use Rattle.carrier.specs.Names.{first_name, first_place}
 use Rattle.udp1_packets.specs.Value.{Extended, Syn, Body, SynBody, DataBody, FecBody, BareBody, Packet}
 
 -- a field: its name, and its number, its number of two or of four bytes in so many pairs of
@@ -92,26 +92,8 @@ packet_words p =
 
 -- a fault, which has a name and a place
 abbrev pub fault_words : List ℕ → ℕ → List (List ℕ)
-fault_words reason at = codes "refused" ∷ reason ∷ codes "at" ∷ decimal at ∷ []
+fault_words name at = codes "refused" ∷ name ∷ codes "at" ∷ decimal at ∷ []
 
--- the name of a fault, and its place
-abbrev pub reason : Refusal1 → List ℕ
-reason (refusal.Short short) = codes "Short"
-reason (refusal.BadMtu at) = codes "BadMtu"
-reason (refusal.BadVersion at) = codes "BadVersion"
-reason (refusal.BadState at) = codes "BadState"
-reason (refusal.VectorTooLong at) = codes "VectorTooLong"
-reason (refusal.SynWithData at) = codes "SynWithData"
-reason (refusal.PaddingNotZero at) = codes "PaddingNotZero"
-
-abbrev pub place : Refusal1 → ℕ
-place (refusal.Short short) = short.at
-place (refusal.BadMtu at) = at
-place (refusal.BadVersion at) = at
-place (refusal.BadState at) = at
-place (refusal.VectorTooLong at) = at
-place (refusal.SynWithData at) = at
-place (refusal.PaddingNotZero at) = at
-
+-- a fault of a datagram of the first layout
 abbrev pub refusal_words : Refusal1 → List (List ℕ)
-refusal_words r = fault_words (reason r) (place r)
+refusal_words r = fault_words (first_name r) (first_place r)

@@ -6,7 +6,7 @@ ghost use Rattle.dvc_pdus.specs.Value.{Caps, SyncRequest};
 ghost use Rattle.dvc_pdus.specs.Views.{pdu_of};
 ghost use Rattle.dvc_pdus.specs.ListViews.{ids_left, list_of, lists_left, types_left};
 ghost use Rattle.mt_show.specs.Words.{number_field, digits_field, wide_field, where_there};
-ghost use Rattle.mt_show.specs.ChannelWords.{numbers_word, charges_word, kind_name, list_word, data_words, first_words, channel_words, channel_reason, channel_place, channel_refusal_words};
+ghost use Rattle.mt_show.specs.ChannelWords.{numbers_word, charges_word, kind_name, list_word, data_words, first_words, channel_words, channel_refusal_words};
 ghost use Rattle.mt_show.specs.Steps.{behind, Adds, AddsWords};
 
 use crate::output::Output;
@@ -207,43 +207,5 @@ fn kind_name(kind: Kind) -> &'static [u8]
 pub(crate) fn channel_refusal(out: &mut Output, refusal: DvcRefusal) -> Result<(), NoMemory>
     ensures { OnOk result (AddsWords (channel_refusal_words refusal) out.old.bytes.items out.new.bytes.items) }
 {
-    out.fault(reason(refusal), place(refusal))
-}
-
-/// The name of a fault.
-fn reason(refusal: DvcRefusal) -> &'static [u8]
-    ensures { result.now ≡ channel_reason refusal }
-{
-    match refusal {
-        DvcRefusal::Short(_) => b"Short",
-        DvcRefusal::TooLong { .. } => b"TooLong",
-        DvcRefusal::UnknownCommand { .. } => b"UnknownCommand",
-        DvcRefusal::BadCbId { .. } => b"BadCbId",
-        DvcRefusal::BadLen { .. } => b"BadLen",
-        DvcRefusal::NameNotEnded { .. } => b"NameNotEnded",
-        DvcRefusal::BadName { .. } => b"BadName",
-        DvcRefusal::LengthTooSmall { .. } => b"LengthTooSmall",
-        DvcRefusal::SyncLength { .. } => b"SyncLength",
-        DvcRefusal::BadTunnelType { .. } => b"BadTunnelType",
-        DvcRefusal::Trailing { .. } => b"Trailing",
-    }
-}
-
-/// The place of a fault.
-fn place(refusal: DvcRefusal) -> usize
-    ensures { result ≡ channel_place refusal }
-{
-    match refusal {
-        DvcRefusal::Short(short) => short.at,
-        DvcRefusal::TooLong { at }
-        | DvcRefusal::UnknownCommand { at }
-        | DvcRefusal::BadCbId { at }
-        | DvcRefusal::BadLen { at }
-        | DvcRefusal::NameNotEnded { at }
-        | DvcRefusal::BadName { at }
-        | DvcRefusal::LengthTooSmall { at }
-        | DvcRefusal::SyncLength { at }
-        | DvcRefusal::BadTunnelType { at }
-        | DvcRefusal::Trailing { at } => at,
-    }
+    out.fault(refusal.name(), refusal.place())
 }

@@ -138,11 +138,11 @@ impl Output {
     }
 
     /// The words of a fault with this name, at this place.
-    pub(crate) fn fault(&mut self, reason: &[u8], at: usize) -> Result<(), NoMemory>
-        ensures { OnOk result (AddsWords (fault_words reason.now at) self.old.bytes.items self.new.bytes.items) }
+    pub(crate) fn fault(&mut self, name: &str, at: usize) -> Result<(), NoMemory>
+        ensures { OnOk result (AddsWords (fault_words name.now at) self.old.bytes.items self.new.bytes.items) }
     {
         self.word(b"refused")?;
-        self.word(reason)?;
+        self.word(name.as_bytes())?;
         self.word(b"at")?;
         self.number(b"", at as u64)?;
         Ok(())

@@ -5,7 +5,7 @@ ghost use Rattle.std.specs.Option.{option_copied, option_map};
 ghost use Rattle.ack_vector.specs.Elements.{IsGood, run_of};
 ghost use Rattle.udp1_packets.specs.Layout.{IsTold, IsBody, IsPacket};
 ghost use Rattle.udp1_packets.specs.Views.{extended_of, syn_of, body_of, packet_of};
-ghost use Rattle.mt_show.specs.Words.{where_there, number_field, hex_field, run_word, runs_word, vector_word, told_words, extended_words, extension_words, opening_word, syn_words, data_words, fec_words, bare_words, body_words, packet_words, reason, place, refusal_words};
+ghost use Rattle.mt_show.specs.Words.{where_there, number_field, hex_field, run_word, runs_word, vector_word, told_words, extended_words, extension_words, opening_word, syn_words, data_words, fec_words, bare_words, body_words, packet_words, refusal_words};
 ghost use Rattle.mt_show.specs.Steps.{Adds, AddsWords};
 
 use crate::output::Output;
@@ -209,35 +209,5 @@ fn bare(out: &mut Output, rest: &[u8]) -> Result<(), NoMemory>
 pub(crate) fn refusal(out: &mut Output, refusal: Refusal1) -> Result<(), NoMemory>
     ensures { OnOk result (AddsWords (refusal_words refusal) out.old.bytes.items out.new.bytes.items) }
 {
-    out.fault(reason(refusal), place(refusal))
-}
-
-/// The name of a fault.
-fn reason(refusal: Refusal1) -> &'static [u8]
-    ensures { result.now ≡ reason refusal }
-{
-    match refusal {
-        Refusal1::Short(_) => b"Short",
-        Refusal1::BadMtu { .. } => b"BadMtu",
-        Refusal1::BadVersion { .. } => b"BadVersion",
-        Refusal1::BadState { .. } => b"BadState",
-        Refusal1::VectorTooLong { .. } => b"VectorTooLong",
-        Refusal1::SynWithData { .. } => b"SynWithData",
-        Refusal1::PaddingNotZero { .. } => b"PaddingNotZero",
-    }
-}
-
-/// The place of a fault.
-fn place(refusal: Refusal1) -> usize
-    ensures { result ≡ place refusal }
-{
-    match refusal {
-        Refusal1::Short(short) => short.at,
-        Refusal1::BadMtu { at }
-        | Refusal1::BadVersion { at }
-        | Refusal1::BadState { at }
-        | Refusal1::VectorTooLong { at }
-        | Refusal1::SynWithData { at }
-        | Refusal1::PaddingNotZero { at } => at,
-    }
+    out.fault(refusal.name(), refusal.place())
 }

@@ -6,7 +6,7 @@ ghost use Rattle.coded_vector.specs.CodedBytes.{flags_of};
 ghost use Rattle.udp2_packets.specs.Layout.{IsPacket, IsVector, ack_in, vector_in, number_in, kind};
 ghost use Rattle.udp2_packets.specs.Views.{telling_of, delay_of, body_of, packet_of};
 ghost use Rattle.mt_show.specs.Words.{number_field, where_there};
-ghost use Rattle.mt_show.specs.SecondWords.{words_there, ack_words, delay_word, flag_letter, flags_word, vector_words, last_words, second_words, second_reason, second_place, second_refusal_words};
+ghost use Rattle.mt_show.specs.SecondWords.{words_there, ack_words, delay_word, flag_letter, flags_word, vector_words, last_words, second_words, second_refusal_words};
 ghost use Rattle.mt_show.specs.Steps.{Adds, AddsWords};
 
 use crate::output::Output;
@@ -146,33 +146,5 @@ fn last(out: &mut Output, body: Body2<'_>) -> Result<(), NoMemory>
 pub(crate) fn second_refusal(out: &mut Output, refusal: Refusal2) -> Result<(), NoMemory>
     ensures { OnOk result (AddsWords (second_refusal_words refusal) out.old.bytes.items out.new.bytes.items) }
 {
-    out.fault(reason(refusal), place(refusal))
-}
-
-/// The name of a fault.
-fn reason(refusal: Refusal2) -> &'static [u8]
-    ensures { result.now ≡ second_reason refusal }
-{
-    match refusal {
-        Refusal2::Short(_) => b"Short",
-        Refusal2::ShortLength { .. } => b"ShortLength",
-        Refusal2::BadType { .. } => b"BadType",
-        Refusal2::UnknownFlag { .. } => b"UnknownFlag",
-        Refusal2::AckAndVector { .. } => b"AckAndVector",
-        Refusal2::Trailing { .. } => b"Trailing",
-    }
-}
-
-/// The place of a fault.
-fn place(refusal: Refusal2) -> usize
-    ensures { result ≡ second_place refusal }
-{
-    match refusal {
-        Refusal2::Short(short) => short.at,
-        Refusal2::ShortLength { at }
-        | Refusal2::BadType { at }
-        | Refusal2::UnknownFlag { at }
-        | Refusal2::AckAndVector { at }
-        | Refusal2::Trailing { at } => at,
-    }
+    out.fault(refusal.name(), refusal.place())
 }

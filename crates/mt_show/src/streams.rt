@@ -4,13 +4,13 @@ ghost use Rattle.std.specs.Prelude.{◌≡◌, OnOk, [], ◌∷◌, codes};
 ghost use Rattle.std.specs.Fmt.{decimal};
 ghost use Rattle.tunnel_pdus.specs.Views.{pdu_of, frame_of};
 ghost use Rattle.tunnel_pdus.specs.Reading.{seen};
-ghost use Rattle.mt_show.specs.StreamWords.{create_words, pdu_words, kind_word, frame_words, stream_reason, then_words, front_words};
+ghost use Rattle.mt_show.specs.StreamWords.{create_words, pdu_words, kind_word, frame_words, then_words, front_words};
 ghost use Rattle.mt_show.specs.Words.{fault_words};
 ghost use Rattle.mt_show.specs.Steps.{AddsWords};
 
 use crate::output::Output;
 use mt_base::{Kind, NoMemory};
-use tunnel_pdus::{MainFrame, Part, TunnelPdu, TunnelReason, TunnelRefusal};
+use tunnel_pdus::{MainFrame, Part, TunnelPdu, TunnelRefusal};
 
 /// The words of what so many bytes of a link's stream begin with.
 pub(crate) fn tunnel_front(
@@ -27,7 +27,7 @@ pub(crate) fn tunnel_front(
             Ok(())
         }
         Ok(Part::More { need }) => more(out, need),
-        Err(fault) => out.fault(reason(fault.reason), fault.at),
+        Err(fault) => out.fault(fault.name(), fault.place()),
     }
 }
 
@@ -46,7 +46,7 @@ pub(crate) fn frame_front(
             Ok(())
         }
         Ok(Part::More { need }) => more(out, need),
-        Err(fault) => out.fault(reason(fault.reason), fault.at),
+        Err(fault) => out.fault(fault.name(), fault.place()),
     }
 }
 
@@ -123,20 +123,4 @@ fn more(out: &mut Output, need: usize) -> Result<(), NoMemory>
 {
     out.word(b"more")?;
     out.number(b"", need as u64)
-}
-
-/// The name of a fault.
-fn reason(reason: TunnelReason) -> &'static [u8]
-    ensures { result.now ≡ stream_reason reason }
-{
-    match reason {
-        TunnelReason::BadAction => b"BadAction",
-        TunnelReason::BadFlags => b"BadFlags",
-        TunnelReason::BadHeaderLength => b"BadHeaderLength",
-        TunnelReason::BadSubHeader => b"BadSubHeader",
-        TunnelReason::WrongLength => b"WrongLength",
-        TunnelReason::TooLong => b"TooLong",
-        TunnelReason::BadKind => b"BadKind",
-        TunnelReason::BadProtocol => b"BadProtocol",
-    }
 }
