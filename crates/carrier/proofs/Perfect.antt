@@ -1,9 +1,9 @@
 -- Lemmas on perfect links.
-use Rattle.std.proofs.Common.{◌≡◌, ℕ, ◌+◌, ◌≤◌, min, max, List, [], ◌++◌, length, take, drop, refl, sym, ap, ◌∙◌, append_assoc, append-nil}
-use Rattle.std.proofs.lemmas.List.{take-append-le, drop_min, take_min}
+use Rattle.std.proofs.Common.{◌≡◌, ℕ, ◌+◌, ◌≤◌, min, max, List, [], ◌++◌, length, take, drop, refl, sym, ap, ◌∙◌, append_assoc, append-nil, arith}
+use Rattle.std.proofs.lemmas.List.{take-append-le, drop-append-le, drop-drop, take-append-drop, length-take, length-drop, drop_min, take_min}
 use Rattle.std.proofs.Math.Nat.{min_comm}
-use Rattle.std.proofs.Math.Seq.{take-append-add, drop-append_seam}
-use borrow.Rule.Slice.PartMut.{put_mid}
+use Rattle.std.proofs.Math.Seq.{take-append-add, drop-append-add, drop-append_seam}
+use borrow.Rule.Slice.PartMut.{put_mid, mid_of}
 use Rattle.byteorder.specs.Endian.{little_bytes}
 use Rattle.mt_base.specs.Trace.{Trace, ◌▷◌}
 use Rattle.carrier.specs.declared.state.Took.{Took}
@@ -26,6 +26,21 @@ written number count buffer old piece bytes e within same =
     ap (λ b. take (8 + count) (put_mid 8 1224 b piece)) e
     ∙ take-append-add (little_bytes 8 number) (piece ++ drop 1224 (drop 8 old)) count
     ∙ ap (λ xs. little_bytes 8 number ++ xs) (take-append-le count piece (drop 1224 (drop 8 old)) within ∙ same)
+
+-- and what stands behind the front and that end
+pub behind : (number count : ℕ) (buffer old piece : List ℕ) → buffer ≡ little_bytes 8 number ++ drop 8 old → length old ≡ 1232 → length piece ≡ 1224 → count ≤ 1224
+    → drop count piece ≡ drop count (mid_of 8 1224 buffer) → drop (8 + count) (put_mid 8 1224 buffer piece) ≡ drop (8 + count) old
+behind number count buffer old piece e long size within same =
+    let front = take 1224 (drop 8 old) in
+    let end = drop 1224 (drop 8 old) in
+    let fits : count ≤ length front = omega (arith, within, long, length-take 1224 (drop 8 old), length-drop 8 old) in
+    ap (λ b. drop (8 + count) (put_mid 8 1224 b piece)) e
+    ∙ drop-append-add (little_bytes 8 number) (piece ++ end) count
+    ∙ drop-append-le count piece end (omega (arith, within, size))
+    ∙ ap (λ xs. xs ++ end) (same ∙ ap (λ b. drop count (mid_of 8 1224 b)) e)
+    ∙ sym (drop-append-le count front end fits)
+    ∙ ap (drop count) (take-append-drop 1224 (drop 8 old))
+    ∙ drop-drop count 8 old
 
 -- ---- a carrier that takes a datagram
 

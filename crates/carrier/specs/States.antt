@@ -30,3 +30,8 @@ post_answer (Closed expiries) load = Err (post.Closed expiries)
 abbrev pub HandsOut : List (List ℕ) → List (List ℕ) → Option (List ℕ) → Type 0
 HandsOut old new None = (old ≡ []) × (new ≡ [])
 HandsOut old new (Some bytes) = old ≡ bytes ∷ new
+
+-- how many bytes of the output a call wrote: those of the datagram that it gave, or none
+abbrev pub written : Option ℕ → ℕ
+written None = 0
+written (Some length) = length

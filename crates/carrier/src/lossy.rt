@@ -7,7 +7,7 @@ ghost use Rattle.carrier.specs.declared.state.LinkState.TheVariants.{Closed as I
 ghost use Rattle.carrier.specs.declared.state.Took.TheVariants.{Ignored};
 ghost use Rattle.carrier.specs.declared.state.Reason.TheVariants as reason;
 ghost use Rattle.carrier.specs.Entries.{Entry, In, Next, Polled, Posted};
-ghost use Rattle.carrier.specs.States.{post_answer, HandsOut};
+ghost use Rattle.carrier.specs.States.{post_answer, written, HandsOut};
 
 use crate::state::{LinkState, Took};
 
@@ -78,12 +78,14 @@ pub trait Post {
             condition self.old ≡ IsClosed e };
 
     /// Writes the datagram that is due at this moment, which is below 2^62, to the front of `out`
-    /// and gives its length; `None` where nothing is due. A closed link sends nothing.
+    /// and gives its length; `None` where nothing is due. What stands behind it in `out` stays. A
+    /// closed link sends nothing.
     fn poll(&mut self, now: u64, out: &mut [u8; 1232]) -> Option<usize>
         requires moment { now < 2 ^ 62 }
         ensures bound { IfSome result (λ n. n ≤ 1232) }
         ensures trace { (t : Trace Entry) → stands self.old t →
             stands self.new (t ▷ Polled now (option_map (λ n. take n out.new) result)) }
+        ensures rest { drop (written result) out.new ≡ drop (written result) out.old }
         ensures law { (t : Trace Entry) → law self.new t ↔ law self.old t }
         ensures left { left self.new ≡ left self.old }
         ensures load { load self.new ≤ load self.old }

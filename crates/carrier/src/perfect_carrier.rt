@@ -1,6 +1,6 @@
 //! A reliable link that needs no real one, for tests of what stands above links.
 
-ghost use Rattle.std.specs.Prelude.{◌≡◌, ◌+◌, ◌<◌, ◌≤◌, [], true, length, take, IfOk};
+ghost use Rattle.std.specs.Prelude.{◌≡◌, ◌+◌, ◌<◌, ◌≤◌, [], true, length, take, drop, IfOk};
 ghost use Rattle.mt_base.specs.Trace.{Start};
 ghost use Rattle.carrier.specs.Perfect.{spelled, may_send, answer_to, answer_by, number_of, bytes_of};
 ghost use Rattle.carrier.specs.PerfectView.{CarrierStands, carrier_took, with_arrived, without_sent};
@@ -116,6 +116,7 @@ impl PerfectCarrier {
         requires { may_send (length self.old.waiting) self.old.sent ≡ true }
         ensures bound { result ≤ 1232 }
         ensures datagram { take result out.new ≡ spelled self.old.sent (take PART self.old.waiting) }
+        ensures rest { drop result out.new ≡ drop result out.old }
         ensures kept { self.new ≡ without_sent self.old }
     {
         let count = self.waiting.len().min(PART);

@@ -1,7 +1,7 @@
 //! A link of parts that needs no real one, for tests of what stands above links and for ends that
 //! never have one.
 
-ghost use Rattle.std.specs.Prelude.{◌≡◌, ◌<◌, ◌≤◌, ◌∷◌, [], true, Some, length, take, IfOk};
+ghost use Rattle.std.specs.Prelude.{◌≡◌, ◌<◌, ◌≤◌, ◌∷◌, [], true, Some, length, take, drop, IfOk};
 ghost use Rattle.std.specs.VecDeque.{deque_capacity};
 ghost use Rattle.mt_base.specs.Trace.{Start};
 ghost use Rattle.carrier.specs.Perfect.{number_of, bytes_of, may_send};
@@ -125,6 +125,7 @@ impl PerfectPost {
         requires { may_send (length self.old.waiting) self.old.sent ≡ true }
         ensures bound { result ≤ 1232 }
         ensures datagram { first_spelled self.old.sent self.old.waiting ≡ Some (take result out.new) }
+        ensures rest { drop result out.new ≡ drop result out.old }
         ensures kept { self.new ≡ without_part self.old }
     {
         LittleEndian::write_u64(out, self.sent);
@@ -140,6 +141,7 @@ fn put_first(parts: &mut VecDeque<Piece>, out: &mut [u8]) -> usize
     requires room { ROOM ≤ length out.old }
     ensures bound { result ≤ ROOM }
     ensures bytes { parts.old.items ≡ take result out.new ∷ parts.new.items }
+    ensures rest { drop result out.new ≡ drop result out.old }
     ensures capacity { deque_capacity parts.old ≤ deque_capacity parts.new }
 {
     match parts.pop_front() {

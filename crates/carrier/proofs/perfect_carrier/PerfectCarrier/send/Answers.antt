@@ -2,7 +2,7 @@ use Rattle.std.proofs.Common.{◌≡◌, ◌∙◌, ap, subst, arith, take, drop
 use borrow.Rule.Slice.PartMut.{put_mid}
 use Rattle.carrier.specs.Perfect.{spelled}
 use Rattle.carrier.specs.PerfectView.{without_sent}
-use Rattle.carrier.proofs.Perfect.{first_bytes, bytes_behind, written}
+use Rattle.carrier.proofs.Perfect.{behind, first_bytes, bytes_behind, written}
 use Rattle.carrier.proofs.perfect_carrier.PerfectCarrier.send.Goals as goal
 
 pub returns-clause-datagram : goal.returns-clause-datagram
@@ -22,3 +22,7 @@ returns-clause-kept c =
     ap (λ xs. record { waiting = xs; sent = c.self.inside.sent + 1; arrived = c.self.inside.arrived.items; next = c.self.inside.next; last = c.self.inside.last })
     (c.take_front.ensures.items ∙ ap (λ n. drop n waiting) size ∙ bytes_behind 1000 waiting)
     ∙ ap without_sent c.self.view_is
+
+pub returns-clause-rest : goal.returns-clause-rest
+returns-clause-rest c =
+    behind c.self.inside.sent c.min-count.result c.write_u64.new.buf c.args.out.now c.take_front.new.out c.write_u64.ensures (omega (arith, c.fits-out)) (omega (arith, c.take_front.auto.out)) (omega (arith, c.min-count.ensures)) c.take_front.ensures.rest
