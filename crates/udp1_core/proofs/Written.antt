@@ -1,6 +1,8 @@
 -- What stands at the front of a buffer after a datagram was written to it.
 use Rattle.std.proofs.Common.{◌≡◌, ℕ, ◌+◌, ◌-◌, ◌<◌, ◌≤◌, Bool, true, false, List, ◌++◌, All, length, take, drop, if◌then◌else◌, Option, Some, None, sym, ap, ap₂, ◌∙◌, subst, arith, length-take, zero-add, suc-add, [], ◌∷◌}
-use Rattle.std.proofs.Math.Seq.{take-append_seam}
+use Rattle.std.proofs.lemmas.List.{drop-append-le, drop-drop, take-append-drop, length-drop}
+use Rattle.std.proofs.Math.Seq.{take-append_seam, drop-append-add}
+use borrow.Rule.Slice.PartMut.{mid_of, post_of}
 use Rattle.mt_windows.specs.Arrived.{Parts}
 use Rattle.carrier.specs.Layout.{Carried}
 use Rattle.carrier.specs.LayoutLaw.{IsCarried}
@@ -90,3 +92,27 @@ numbers_of part transmission = record { part = part; transmission = transmission
 -- a part that is sent again is near to the last one cut
 pub near_place : (part own cut p : ℕ) → part ≡ own + p → own + cut ≤ part + 64 → cut ≤ p + 64
 near_place part own cut p is near = omega (arith, is, near)
+
+-- what stands behind what was written to the front of the first bytes stays
+pub kept_front : (r k : ℕ) (old new : List ℕ) → k ≤ length old → r ≤ k → length new ≡ k
+    → drop r new ≡ drop r (take k old) → drop r (new ++ drop k old) ≡ drop r old
+kept_front r k old new there within size same =
+    drop-append-le r new (drop k old) (omega (arith, within, size))
+    ∙ ap (λ xs. xs ++ drop k old) same
+    ∙ sym (drop-append-le r (take k old) (drop k old) (omega (arith, within, there, length-take k old)))
+    ∙ ap (drop r) (take-append-drop k old)
+
+-- what stands behind a head and what was written behind it stays
+pub kept_behind : (head r k : ℕ) (old mid part : List ℕ) → head + k ≡ length mid → length part ≡ k → r ≤ k
+    → drop head mid ≡ drop head old → drop r part ≡ drop r (mid_of head k mid)
+    → drop (head + r) (take head mid ++ (part ++ post_of head k mid)) ≡ drop (head + r) old
+kept_behind head r k old mid part long size within kept same =
+    let behind = drop head mid in
+    let there : length (take head mid) ≡ head = omega (arith, long, length-take head mid) in
+    ap (λ n. drop (n + r) (take head mid ++ (part ++ post_of head k mid))) (sym there)
+    ∙ drop-append-add (take head mid) (part ++ post_of head k mid) r
+    ∙ drop-append-le r part (drop k behind) (omega (arith, within, size))
+    ∙ ap (λ xs. xs ++ drop k behind) same
+    ∙ sym (drop-append-le r (take k behind) (drop k behind) (omega (arith, within, long, length-drop head mid, length-take k behind)))
+    ∙ ap (drop r) (take-append-drop k behind ∙ kept)
+    ∙ drop-drop r head old

@@ -22,7 +22,7 @@ ghost use Rattle.udp1_core.specs.MachineView.{Stands, layout_of, link_layout, co
 ghost use Rattle.carrier.specs.declared.state.LinkState.TheVariants.{Open, Closed as IsClosed};
 ghost use Rattle.carrier.specs.declared.state.Took.TheVariants.{Ignored};
 ghost use Rattle.carrier.specs.declared.state.Reason.TheVariants as reason;
-ghost use Rattle.carrier.specs.States.{give_answer};
+ghost use Rattle.carrier.specs.States.{give_answer, written};
 ghost use Rattle.udp1_core.specs.ContentsView.{Shows, IsFit};
 
 use crate::choice::Choice;
@@ -148,6 +148,7 @@ impl Udp1Core {
     fn send_fresh(&mut self, out: &mut [u8; 1232]) -> usize
         requires { may_cut_of self.old.sender.outbox self.old.sender.told ≡ true }
         ensures bound { result ≤ 1132 }
+        ensures rest { drop result out.new ≡ drop result out.old }
         ensures bytes { (acts : Trace Act) (told : ℕ) (timer : Timer) (parts : Parts) (n floor : ℕ) (owed : List ℕ) →
             Speaks self.old.sender acts told timer → Hears self.old.receiver parts n floor owed →
             take result out.new ≡ spelled (packet_with (carries self.old.receiver.peer parts floor owed None (fresh_load self.old.sender.own acts))) }
@@ -178,6 +179,7 @@ impl Udp1Core {
             Speaks self.new.sender (acts ▷ Cut) told (timer_begun (layout_out self.old.sender delay peer) acts timer self.old.moment) }
         ensures fits { result ≤ 1000 }
         ensures good { All (λ b. b < 256) (take result out.new) }
+        ensures rest { drop result out.new ≡ drop result out.old }
         ensures queued { queued_of self.new.sender.outbox ≤ queued_of self.old.sender.outbox }
         ensures expiries { self.new.sender.timer.expiries ≡ self.old.sender.timer.expiries }
         ensures own { self.new.sender.own ≡ self.old.sender.own }
@@ -197,6 +199,7 @@ impl Udp1Core {
         requires reach { reach_of self.old.sender.outbox < 4096 }
         requires number { next_transmission self.old.sender.outbox < 2 ^ 62 }
         ensures bound { result ≤ 1132 }
+        ensures rest { drop result out.new ≡ drop result out.old }
         ensures bytes { (p : ℕ) (acts : Trace Act) (told : ℕ) (timer : Timer) (parts : Parts) (n floor : ℕ) (owed : List ℕ) →
             part ≡ self.old.sender.own + p →
             Speaks self.old.sender acts told timer → Hears self.old.receiver parts n floor owed →
@@ -241,6 +244,7 @@ impl Udp1Core {
             Speaks self.new.sender (acts ▷ Resent (part - self.old.sender.own)) told timer }
         ensures fits { result ≤ 1000 }
         ensures good { All (λ b. b < 256) (take result out.new) }
+        ensures rest { drop result out.new ≡ drop result out.old }
         ensures queued { queued_of self.new.sender.outbox ≡ queued_of self.old.sender.outbox }
         ensures timer { self.new.sender.timer ≡ self.old.sender.timer }
         ensures own { self.new.sender.own ≡ self.old.sender.own }
@@ -257,6 +261,7 @@ impl Udp1Core {
     /// Writes a datagram that only tells what was received, where that has to be told.
     fn tell(&mut self, out: &mut [u8; 1232]) -> Option<usize>
         ensures bound { IfSome result (λ n. n ≤ 132) }
+        ensures rest { drop (written result) out.new ≡ drop (written result) out.old }
         ensures bytes { (parts : Parts) (n floor : ℕ) (owed : List ℕ) → Hears self.old.receiver parts n floor owed →
             option_map (λ n. take n out.new) result ≡ (if is_pressing (layout_of self.old) owed self.old.moment
             then Some (spelled (packet_with (head_of self.old.receiver.peer parts floor owed None None))) else None) }
@@ -342,6 +347,7 @@ impl Carrier for Udp1Core {
     fn poll(&mut self, now: u64, out: &mut [u8; 1232]) -> Option<usize>
         requires moment { now < 2 ^ 62 }
         ensures bound { IfSome result (λ n. n ≤ 1232) }
+        ensures rest { drop (written result) out.new ≡ drop (written result) out.old }
         ensures trace { (t : Trace Entry) → Stands self.old t →
             Stands self.new (t ▷ Polled now (option_map (λ n. take n out.new) result)) }
         ensures law { (t : Trace Entry) → Faithful (layout_of self.new) t ↔ Faithful (layout_of self.old) t }

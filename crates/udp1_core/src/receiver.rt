@@ -292,6 +292,7 @@ impl Receiver {
         out: &mut [u8; 1232],
     ) -> usize
         ensures bound { result ≤ 132 }
+        ensures rest { drop result out.new ≡ drop result out.old }
         ensures bytes { (parts : Parts) (n old : ℕ) (owed : List ℕ) → Hears self.old parts n old owed →
             let text = spelled (packet_with (head_of self.old.peer parts old owed floor numbers)) in
             (result ≡ length text) × (out.new ≡ text ++ drop result out.old) }

@@ -1,6 +1,6 @@
 //! The sending half of the machine: the window of parts, what the other end told, and the timer.
 
-ghost use Rattle.std.specs.Prelude.{◌≡◌, ◌+◌, ◌-◌, ◌<◌, ◌≤◌, ◌^◌, ◌&&◌, ◌||◌, ℕ, Option, Some, None, true, All, length, take, min, nat_le, is_some, if◌then◌else◌, IfOk, IfSome, OnOk, OnErr, Ok, Err, nat_lt, option_copied};
+ghost use Rattle.std.specs.Prelude.{◌≡◌, ◌+◌, ◌-◌, ◌<◌, ◌≤◌, ◌^◌, ◌&&◌, ◌||◌, ℕ, Option, Some, None, true, All, length, take, drop, min, nat_le, is_some, if◌then◌else◌, IfOk, IfSome, OnOk, OnErr, Ok, Err, nat_lt, option_copied};
 ghost use Rattle.mt_base.specs.Trace.{Trace, Start, ◌▷◌};
 ghost use Rattle.ack_vector.specs.Elements.{IsGood, flags_of};
 ghost use Rattle.mt_windows.specs.Sending.Act.{Gave, Cut, Resent};
@@ -351,6 +351,7 @@ impl Sender {
             Speaks self.new (acts ▷ Cut) told (timer_begun (layout_out self.old delay peer) acts timer at) }
         ensures fits { result ≤ 1000 }
         ensures whole { length out.new ≡ 1000 }
+        ensures rest { drop result out.new ≡ drop result out.old }
         ensures queued { queued_of self.new.outbox ≤ queued_of self.old.outbox }
         ensures expiries { self.new.timer.expiries ≡ self.old.timer.expiries }
         ensures own { self.new.own ≡ self.old.own }
@@ -389,6 +390,7 @@ impl Sender {
             Speaks self.new (acts ▷ Resent (part - self.old.own)) told timer }
         ensures fits { result ≤ 1000 }
         ensures whole { length out.new ≡ 1000 }
+        ensures rest { drop result out.new ≡ drop result out.old }
         ensures near { (acts : Trace Act) (told : ℕ) (timer : Timer) → Speaks self.old acts told timer → self.old.own + cuts acts ≤ part + 64 }
         ensures queued { queued_of self.new.outbox ≡ queued_of self.old.outbox }
         ensures timer { self.new.timer ≡ self.old.timer }

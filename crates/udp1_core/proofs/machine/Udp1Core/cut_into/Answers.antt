@@ -1,9 +1,10 @@
-use Rattle.std.proofs.Common.{◌≤◌, ◌<◌, ◌∙◌, length, take, drop, sym, ap, subst, arith}
+use Rattle.std.proofs.Common.{◌<◌, ◌∙◌, drop, sym, ap, subst, arith, rules}
 use Rattle.std.proofs.lemmas.List.Elements.{All-from_get_or, All-take}
 use Rattle.mt_base.specs.Trace.{◌▷◌}
 use Rattle.mt_windows.specs.Sending.Act.{Cut}
 use Rattle.udp1_core.specs.SenderView.{Speaks, layout_out, timer_begun}
 use Rattle.udp1_core.proofs.Steps.{take_front}
+use Rattle.udp1_core.proofs.Written.{kept_front}
 use Rattle.udp1_core.proofs.machine.Udp1Core.cut_into.Goals as goal
 
 pub returns-clause-bytes : goal.returns-clause-bytes
@@ -21,3 +22,8 @@ returns-clause-stands c delay peer acts told timer speaks =
 pub returns-clause-good : goal.returns-clause-good
 returns-clause-good c =
     All-take (λ b. b < 256) c.cut.result _ (All-from_get_or (λ b. b < 256) _ 0 (λ i within. omega (arith, c.type_inv.out i)))
+
+pub returns-clause-rest : goal.returns-clause-rest
+returns-clause-rest c =
+    kept_front c.cut.result 1000 c.args.out.now c.cut.new.out c.requires.long c.cut.ensures.fits c.cut.ensures.whole
+    (c.cut.ensures.rest ∙ ap (drop c.cut.result) (search rules))

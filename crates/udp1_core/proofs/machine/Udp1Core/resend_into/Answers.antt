@@ -1,4 +1,4 @@
-use Rattle.std.proofs.Common.{◌≡◌, ◌≤◌, ◌<◌, ◌+◌, ◌-◌, ◌∙◌, length, take, drop, sym, ap, subst, arith}
+use Rattle.std.proofs.Common.{◌≤◌, ◌<◌, ◌+◌, ◌-◌, ◌∙◌, length, drop, sym, ap, subst, arith, rules}
 use Rattle.std.proofs.lemmas.List.Elements.{All-from_get_or, All-take}
 use Rattle.mt_base.specs.Trace.{◌▷◌}
 use Rattle.mt_windows.specs.Sending.Act.{Resent}
@@ -7,6 +7,7 @@ use Rattle.mt_windows.specs.SendingView.{limits}
 use Rattle.udp1_core.specs.SenderView.{Speaks}
 use Rattle.udp1_core.specs.MachineView.{Machine}
 use Rattle.udp1_core.proofs.Steps.{take_front}
+use Rattle.udp1_core.proofs.Written.{kept_front}
 use Rattle.udp1_core.proofs.machine.Udp1Core.resend_into.Goals as goal
 
 pub returns-clause-bytes : goal.returns-clause-bytes
@@ -32,3 +33,8 @@ returns-clause-stands c acts told timer speaks =
 pub returns-clause-good : goal.returns-clause-good
 returns-clause-good c =
     All-take (λ b. b < 256) c.resend.result _ (All-from_get_or (λ b. b < 256) _ 0 (λ i within. omega (arith, c.type_inv.out i)))
+
+pub returns-clause-rest : goal.returns-clause-rest
+returns-clause-rest c =
+    kept_front c.resend.result 1000 c.args.out.now c.resend.new.out c.requires.long c.resend.ensures.fits c.resend.ensures.whole
+    (c.resend.ensures.rest ∙ ap (drop c.resend.result) (search rules))

@@ -1,4 +1,4 @@
-use Rattle.std.proofs.Common.{◌≡◌, ℕ, ◌+◌, ◌-◌, take, drop, ap₂, Some, sym, subst, ap, ◌∙◌}
+use Rattle.std.proofs.Common.{◌≡◌, ℕ, ◌+◌, ◌-◌, take, drop, ap₂, Some, sym, subst, ap, ◌∙◌, arith}
 use Rattle.mt_base.specs.Trace.{◌▷◌}
 use Rattle.mt_windows.specs.Sending.Act.{Resent}
 use Rattle.udp1_core.specs.ReceiverView.{Hears, head_of}
@@ -10,7 +10,7 @@ use Rattle.udp1_core.specs.MachineView.{Machine, layout_of, carries, again_load,
 use Rattle.udp1_packets.specs.Layout.{spelled}
 use Rattle.carrier.specs.LayoutLaw.{IsCarried}
 use Rattle.udp1_core.specs.FirstLayout.{packet_with}
-use Rattle.udp1_core.proofs.Written.{part_written, front_carried, part_back, near_place, numbers_of, behind_head, taken_there}
+use Rattle.udp1_core.proofs.Written.{kept_behind, part_written, front_carried, part_back, near_place, numbers_of, behind_head, taken_there}
 use Rattle.udp1_core.proofs.machine.Udp1Core.send_again.Goals as goal
 
 -- the place of the part
@@ -72,3 +72,8 @@ returns-clause-near c p acts told timer part_is speaks =
     near_place c.args.part c.self.inside.sender.own (cuts acts) p (part_is
     ∙ ap (λ m. m.sender.own + p) (sym c.self.view_is)) (c.resend_into.ensures.near acts told
     timer says)
+
+pub returns-clause-rest : goal.returns-clause-rest
+returns-clause-rest c =
+    kept_behind c.head-head.result c.resend_into.result (1232 - c.head-head.result) c.args.out.now c.head-head.new.out c.resend_into.new.out
+    (omega (arith, c.head-head.ensures.bound, c.head-head.array_long)) (omega (arith, c.resend_into.auto.out, c.head-head.array_long, c.head-head.ensures.bound)) (omega (arith, c.resend_into.ensures.fits, c.head-head.ensures.bound)) c.head-head.ensures.rest c.resend_into.ensures.rest

@@ -1,4 +1,4 @@
-use Rattle.std.proofs.Common.{◌≡◌, take, drop, refl, None, Some, sym, subst, ap, ◌∙◌}
+use Rattle.std.proofs.Common.{◌-◌, take, drop, refl, None, Some, sym, subst, ap, ◌∙◌, arith}
 use Rattle.mt_base.specs.Trace.{◌▷◌}
 use Rattle.mt_windows.specs.Sending.Act.{Cut}
 use Rattle.mt_windows.specs.Sending.{next_piece}
@@ -9,7 +9,7 @@ use Rattle.udp1_core.specs.MachineView.{Machine, layout_of, carries, fresh_load,
 use Rattle.udp1_packets.specs.Layout.{spelled}
 use Rattle.carrier.specs.LayoutLaw.{IsCarried}
 use Rattle.udp1_core.specs.FirstLayout.{packet_with}
-use Rattle.udp1_core.proofs.Written.{part_written, front_carried, behind_head, taken_there}
+use Rattle.udp1_core.proofs.Written.{kept_behind, part_written, front_carried, behind_head, taken_there}
 use Rattle.udp1_core.proofs.machine.Udp1Core.send_fresh.Goals as goal
 
 pub returns-clause-bytes : goal.returns-clause-bytes
@@ -54,3 +54,8 @@ returns-clause-hears c parts n floor owed hears =
     subst (λ r. Hears r parts n floor (owed_after owed)) (sym c.cut_into.ensures.receiver)
     (c.head-head.ensures.stands parts n floor owed (subst (λ m. Hears m.receiver parts n floor
     owed) (sym c.self.view_is) hears))
+
+pub returns-clause-rest : goal.returns-clause-rest
+returns-clause-rest c =
+    kept_behind c.head-head.result c.cut_into.result (1232 - c.head-head.result) c.args.out.now c.head-head.new.out c.cut_into.new.out
+    (omega (arith, c.head-head.ensures.bound, c.head-head.array_long)) (omega (arith, c.cut_into.auto.out, c.head-head.array_long, c.head-head.ensures.bound)) (omega (arith, c.cut_into.ensures.fits, c.head-head.ensures.bound)) c.head-head.ensures.rest c.cut_into.ensures.rest
