@@ -81,11 +81,13 @@ fn refuses_openings(rt: HostRuntime) {
         }
         assert_eq!(rt; fault(&bytes), Some(refusal));
     }
-    let bytes = an_opening();
-    assert_eq!(rt;
-        fault(&bytes[..80]),
-        Some(Refusal1::Short(Short { at: 52, need: 32 }))
-    );
+}
+
+#[test]
+fn refuses_a_cut_hash(rt: HostRuntime) {
+    let bytes: [u8; 80] = filled(&an_opening());
+    let cut = Refusal1::Short(Short { at: 52, need: 32 });
+    assert_eq!(rt; fault(&bytes), Some(cut));
 }
 
 #[test]
