@@ -20,3 +20,20 @@ fn a_channel_gets_its_own_in_order(rt: HostRuntime) -> Result<(), Fail> {
     assert_eq!(rt; hold.room(), 1_048_576);
     Ok(())
 }
+
+/// What is held at the front stays, while so much passes behind it that the rings are closed up.
+#[test]
+fn what_is_held_stays_in_place(rt: HostRuntime) -> Result<(), Fail> {
+    let mut hold = Hold::new(rt.alloc())?;
+    let mut out = [0u8; 1600];
+    hold.keep(1, 7, &[9]);
+    for turn in 0..3_000u64 {
+        assert!(rt; hold.room() >= 1_616);
+        hold.keep(2, turn, &[3; 1600]);
+        assert_eq!(rt; hold.release(2, &mut out), Some((turn, 1600)));
+    }
+    assert_eq!(rt; hold.room(), 1_048_576 - 17);
+    assert_eq!(rt; hold.release(1, &mut out), Some((7, 1)));
+    assert_eq!(rt; &out[..2], [9, 3].as_slice());
+    Ok(())
+}

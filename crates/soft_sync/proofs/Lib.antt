@@ -3,3 +3,4 @@ pub mod Answering
 pub mod Growing
 pub mod Finding
 pub mod Asking
+pub mod InOrder

@@ -9,10 +9,12 @@
 
 mod exchanges;
 mod kinds;
+mod laws;
 mod paths;
 mod row;
 
 pub use kinds::{Kinds, Path, Placed, SyncRefusal};
+pub use laws::{a_session, answers_come_in_order, ends_agree};
 pub use paths::Paths;
 
 #[cfg(test)]
