@@ -21,10 +21,10 @@ released id index place rs bs held r first stored is =
     let place_is = first.place_is in
     let within : place + r.length ≤ length bs = omega (arith, at.1, place_is) in
     let len : length (take r.length (drop place bs)) ≡ r.length =
-        length-take-le r.length (drop place bs) (omega (arith, within, length-drop place bs)) in
+    length-take-le r.length (drop place bs) (omega (arith, within, length-drop place bs)) in
     let found : oldest id held ≡ Some (pdu_of r.id r.at (take r.length (drop place bs))) =
-        subst (λ h. oldest id h ≡ Some (pdu_of r.id r.at (take r.length (drop place bs)))) is
-        (oldest_at id index rs r bs first.is first.for_channel first.none_before ∙ ap (λ n. Some (pdu_of r.id r.at (take r.length (drop n bs)))) (sym place_is)) in
+    subst (λ h. oldest id h ≡ Some (pdu_of r.id r.at (take r.length (drop place bs)))) is
+    (oldest_at id index rs r bs first.is first.for_channel first.none_before ∙ ap (λ n. Some (pdu_of r.id r.at (take r.length (drop n bs)))) (sym place_is)) in
     record {
       short = at.0;
       within = within;

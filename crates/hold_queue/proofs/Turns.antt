@@ -62,7 +62,7 @@ turned_stored leaving (r ∷ rs) bs s =
     let is = total_kept leaving r bs h in
     record {
       short = All-append (λ (s : Record). s.length ≤ 1600) rs (kept leaving r) (All-tail (λ (s : Record). s.length ≤ 1600) r rs s.short)
-        (short_kept leaving r (All-head (λ (s : Record). s.length ≤ 1600) r rs s.short));
+          (short_kept leaving r (All-head (λ (s : Record). s.length ≤ 1600) r rs s.short));
       total_is = omega (arith, t, is, total-append rs (kept leaving r), length-append (drop r.length bs) (kept_bytes leaving r bs), length-drop r.length bs);
       few = omega (arith, few, f.0, length-append rs (kept leaving r));
       within = omega (arith, within, h, f.1, length-append (drop r.length bs) (kept_bytes leaving r bs), length-drop r.length bs);
@@ -82,9 +82,9 @@ all_turned leaving (r ∷ rs) ds bs xs h =
     let rest : total rs ≡ length (drop r.length bs) = omega (arith, h, length-drop r.length bs) in
     let records = append_assoc rs ds (kept leaving r) in
     let bytes : drop r.length (bs ++ xs) ++ kept_bytes leaving r (bs ++ xs) ≡ drop r.length bs ++ (xs ++ kept_bytes leaving r bs) =
-        ap (λ t. t ++ kept_bytes leaving r (bs ++ xs)) (drop-append-le r.length bs xs within)
-        ∙ ap (λ t. (drop r.length bs ++ xs) ++ cond (stays leaving r) t []) (take-append-le r.length bs xs within)
-        ∙ append_assoc (drop r.length bs) xs (kept_bytes leaving r bs) in
+    ap (λ t. t ++ kept_bytes leaving r (bs ++ xs)) (drop-append-le r.length bs xs within)
+    ∙ ap (λ t. (drop r.length bs ++ xs) ++ cond (stays leaving r) t []) (take-append-le r.length bs xs within)
+    ∙ append_assoc (drop r.length bs) xs (kept_bytes leaving r bs) in
     ap (λ t. turned_by leaving (length rs) t (drop r.length (bs ++ xs) ++ kept_bytes leaving r (bs ++ xs))) records
     ∙ ap (λ t. turned_by leaving (length rs) (rs ++ (ds ++ kept leaving r)) t) bytes
     ∙ all_turned leaving rs (ds ++ kept leaving r) (drop r.length bs) (xs ++ kept_bytes leaving r bs) rest
@@ -123,7 +123,7 @@ held_staying leaving (r ∷ rs) bs h =
   where
     by : (b : Bool) → stays leaving r ≡ b → r.length ≤ length bs → held_in (staying leaving rs) (staying_bytes leaving rs (drop r.length bs)) ≡ left leaving (held_in rs (drop r.length bs))
         → held_in (cond b (r ∷ []) [] ++ staying leaving rs) (cond b (take r.length bs) [] ++ staying_bytes leaving rs (drop r.length bs))
-          ≡ cond b (pdu_of r.id r.at (take r.length bs) ∷ []) [] ++ left leaving (held_in rs (drop r.length bs))
+        ≡ cond b (pdu_of r.id r.at (take r.length bs) ∷ []) [] ++ left leaving (held_in rs (drop r.length bs))
     by true is within others =
         let sb = staying_bytes leaving rs (drop r.length bs) in
         let n = length-take-le r.length bs within in
@@ -162,11 +162,12 @@ pub closed : (leaving : Option ℕ) (rs ss : List Record) (bs ys : List ℕ) (n 
     → (held_in ss ys ≡ left leaving (held_in rs bs)) × (weight (held_in ss ys) ≡ 16 * length ss + length ys)
 closed leaving rs ss bs ys n count none is old new turned =
     let all : turned_by leaving (length rs) rs bs ≡ (staying leaving rs, staying_bytes leaving rs bs) =
-        sym (ap (λ t. turned_by leaving (length rs) t (bs ++ [])) (append-nil rs) ∙ ap (λ t. turned_by leaving (length rs) rs t) (append-nil bs))
-        ∙ all_turned leaving rs [] bs [] old.total_is in
+    sym (ap (λ t. turned_by leaving (length rs) t (bs ++ [])) (append-nil rs) ∙ ap (λ t. turned_by leaving (length rs) rs t) (append-nil bs))
+    ∙ all_turned leaving rs [] bs [] old.total_is in
     let both : (ss, ys) ≡ (staying leaving rs, staying_bytes leaving rs bs) =
-        sym (ap (λ k. turned_by leaving k ss ys) none) ∙ turned ∙ ap (λ k. turned_by leaving k rs bs) is ∙ all in
+    sym (ap (λ k. turned_by leaving k ss ys) none) ∙ turned ∙ ap (λ k. turned_by leaving k rs bs) is ∙ all in
     let records : ss ≡ staying leaving rs = ap (λ p. p.0) both in
-    let bytes : ys ≡ staying_bytes leaving rs bs = ap (λ p. p.1) both in
-    (ap (λ t. held_in t ys) records ∙ ap (λ t. held_in (staying leaving rs) t) bytes ∙ held_staying leaving rs bs old.total_is,
-     weight_dense ss ys (subst AllHeld (sym records) (staying_are_held leaving rs)) new.total_is)
+    let bytes : ys ≡ staying_bytes leaving rs bs = ap (λ p. p.1) both in (
+      ap (λ t. held_in t ys) records ∙ ap (λ t. held_in (staying leaving rs) t) bytes ∙ held_staying leaving rs bs old.total_is,
+      weight_dense ss ys (subst AllHeld (sym records) (staying_are_held leaving rs)) new.total_is,
+    )

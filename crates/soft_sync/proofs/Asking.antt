@@ -84,6 +84,7 @@ none_listed ids rows es kept h = go ids (none_passes (λ id. is_some (listed id 
     one : (id : ℕ) (o : Option Listing) → lookup (nat_eq id) es ≡ o → is_some (listed id (exchanges_in rows es)) ≡ false → list_any (nat_eq id) (keys_of es) ≡ false
     one id None is h = no_key id es is
     one id (Some l) is h = let at = listed_is id 0 rows es (Some l) is kept.once (number_of id rows es l kept is) in absurd (let clash = sym h ∙ ap is_some at in cc)
+
     go : (ids : List ℕ) → All (λ id. is_some (listed id (exchanges_in rows es)) ≡ false) ids → All (λ id. list_any (nat_eq id) (keys_of es) ≡ false) ids
     go [] all = All-nil (λ (id : ℕ). list_any (nat_eq id) (keys_of es) ≡ false)
     go (id ∷ ids) all =
@@ -239,7 +240,7 @@ pub one_fits : (id : ℕ) (es : Listings) (channels : List (ℕ × Bool)) → Is
     → length channels ≤ 256 → length es < 256
 one_fits id es channels distinct none among told few =
     let room = room_for es (id ∷ []) channels (IsDistinct-push nat_eq_equiv (keys_of es) id distinct (no_key id es none)) among
-      (All-cons (λ id. IsSome (lookup (nat_eq id) channels)) id [] told (All-nil (λ id. IsSome (lookup (nat_eq id) channels)))) few in
+    (All-cons (λ id. IsSome (lookup (nat_eq id) channels)) id [] told (All-nil (λ id. IsSome (lookup (nat_eq id) channels)))) few in
     omega (arith, room)
 
 pub among_both : (n : ℕ) (reliable lossy : List ℕ) (es : Listings) (channels : List (ℕ × Bool)) → AreAmong es channels → AllTold (reliable ++ lossy) channels

@@ -51,11 +51,11 @@ more_listed id n k kind [] es last = refl
 more_listed id n k kind (row ∷ []) es last =
     let same : n ≡ k = omega (arith, last) in
     ap (λ t. exchange_of row t ∷ [])
-      (listed_by-append k es (under n kind (id ∷ [])) ∙ ap (λ t. listed_by k es ++ listed_by k (under t kind (id ∷ []))) same
-      ∙ ap (λ t. listed_by k es ++ t) (listed_by-under k kind (id ∷ [])))
+    (listed_by-append k es (under n kind (id ∷ [])) ∙ ap (λ t. listed_by k es ++ listed_by k (under t kind (id ∷ []))) same
+    ∙ ap (λ t. listed_by k es ++ t) (listed_by-under k kind (id ∷ [])))
 more_listed id n k kind (row ∷ next ∷ rows) es last =
     ap (λ t. exchange_of row t ∷ exchanges_from (k + 1) (next ∷ rows) (es ++ under n kind (id ∷ [])))
-      (listed_by-append k es (under n kind (id ∷ [])) ∙ ap (λ t. listed_by k es ++ t) (listed_by-other n k kind (id ∷ []) (λ e. omega (arith, last, e))) ∙ append-nil (listed_by k es))
+    (listed_by-append k es (under n kind (id ∷ [])) ∙ ap (λ t. listed_by k es ++ t) (listed_by-other n k kind (id ∷ []) (λ e. omega (arith, last, e))) ∙ append-nil (listed_by k es))
     ∙ ap (λ t. exchange_of row (listed_by k es) ∷ t) (more_listed id n (k + 1) kind (next ∷ rows) es (omega (arith, last)))
 
 -- there is one request more, which lists these channels
@@ -67,7 +67,7 @@ one_more n k [] row es fs last below others =
     ∙ ap (λ t. exchange_of row t ∷ []) (listed_by-append n es fs ∙ ap (λ t. t ++ listed_by n fs) (listed_by-below n es below))
 one_more n k (r ∷ rows) row es fs last below others =
     ap (λ t. exchange_of r t ∷ exchanges_from (k + 1) (rows ++ (row ∷ [])) (es ++ fs))
-      (listed_by-append k es fs ∙ ap (λ t. listed_by k es ++ t) (others k (λ e. omega (arith, last, e))) ∙ append-nil (listed_by k es))
+    (listed_by-append k es fs ∙ ap (λ t. listed_by k es ++ t) (others k (λ e. omega (arith, last, e))) ∙ append-nil (listed_by k es))
     ∙ ap (λ t. exchange_of r (listed_by k es) ∷ t) (one_more n (k + 1) rows row es fs (omega (arith, last)) below others)
 
 -- a request more that lists no channel yet
@@ -78,17 +78,17 @@ begun rows row es below =
 -- a request more that lists channels under both kinds
 pub made : (rows : List Row) (row : Row) (es : Listings) (reliable lossy : List ℕ) → Below (length rows) es
     → exchanges_from 0 (rows ++ (row ∷ [])) ((es ++ under (length rows) Reliable reliable) ++ under (length rows) Lossy lossy)
-      ≡ exchanges_from 0 rows es ++ (exchange_of row (map (λ id. (id, Reliable)) reliable ++ map (λ id. (id, Lossy)) lossy) ∷ [])
+    ≡ exchanges_from 0 rows es ++ (exchange_of row (map (λ id. (id, Reliable)) reliable ++ map (λ id. (id, Lossy)) lossy) ∷ [])
 made rows row es reliable lossy below =
     let n = length rows in
     let fs = under n Reliable reliable ++ under n Lossy lossy in
     ap (λ t. exchanges_from 0 (rows ++ (row ∷ [])) t) (append_assoc es (under n Reliable reliable) (under n Lossy lossy))
     ∙ one_more n 0 rows row es fs (omega arith) below
-      (λ j differs. listed_by-append j (under n Reliable reliable) (under n Lossy lossy) ∙ ap (λ t. t ++ listed_by j (under n Lossy lossy)) (listed_by-other n j Reliable reliable differs)
-        ∙ listed_by-other n j Lossy lossy differs)
+    (λ j differs. listed_by-append j (under n Reliable reliable) (under n Lossy lossy) ∙ ap (λ t. t ++ listed_by j (under n Lossy lossy)) (listed_by-other n j Reliable reliable differs)
+    ∙ listed_by-other n j Lossy lossy differs)
     ∙ ap (λ t. exchanges_from 0 rows es ++ (exchange_of row t ∷ []))
-      (listed_by-append n (under n Reliable reliable) (under n Lossy lossy) ∙ ap (λ t. t ++ listed_by n (under n Lossy lossy)) (listed_by-under n Reliable reliable)
-        ∙ ap (λ t. map (λ id. (id, Reliable)) reliable ++ t) (listed_by-under n Lossy lossy))
+    (listed_by-append n (under n Reliable reliable) (under n Lossy lossy) ∙ ap (λ t. t ++ listed_by n (under n Lossy lossy)) (listed_by-under n Reliable reliable)
+    ∙ ap (λ t. map (λ id. (id, Reliable)) reliable ++ t) (listed_by-under n Lossy lossy))
 
 pub below_more : (n m : ℕ) (es : Listings) → n ≤ m → Below n es → Below m es
 below_more n m es h below = All-weaker (λ (l : ℕ × Listing). (l.1).number < n) (λ (l : ℕ × Listing). (l.1).number < m) (λ l p. omega (arith, p, h)) es below

@@ -65,7 +65,7 @@ none_moved : (id k : ℕ) (rows : List Row) (es : Listings) (l : Listing) → lo
 none_moved id k [] es l is distinct past = refl
 none_moved id k (row ∷ rows) es l is distinct past =
     ap (λ t. option_or (if_among row.answer t) (moved id (exchanges_from (k + 1) rows es)))
-      (in_request id k es distinct ∙ ap (λ o. kind_if k o) is ∙ ap (λ b. cond b (Some l.kind) None) (ne_eqb l.number k (λ e. omega (arith, past, e))))
+    (in_request id k es distinct ∙ ap (λ o. kind_if k o) is ∙ ap (λ b. cond b (Some l.kind) None) (ne_eqb l.number k (λ e. omega (arith, past, e))))
     ∙ none_moved id (k + 1) rows es l is distinct (omega (arith, past))
 
 -- the kinds that the answer of this row names
@@ -85,16 +85,17 @@ moved_is id k n [] es l is distinct at = by (if_none l.kind)
     if_none : (kind : Kind) → if_among no_kinds (Some kind) ≡ None
     if_none Reliable = refl
     if_none Lossy = refl
+
     by : if_among no_kinds (Some l.kind) ≡ None → None ≡ if_among no_kinds (Some l.kind)
     by h = sym h
 moved_is id k zero (row ∷ rows) es l is distinct at =
     ap (λ t. option_or (if_among row.answer t) (moved id (exchanges_from (k + 1) rows es)))
-      (in_request id k es distinct ∙ ap (λ o. kind_if k o) is ∙ ap (λ b. cond b (Some l.kind) None) (eq-eqb l.number k (omega (arith, at))))
+    (in_request id k es distinct ∙ ap (λ o. kind_if k o) is ∙ ap (λ b. cond b (Some l.kind) None) (eq-eqb l.number k (omega (arith, at))))
     ∙ ap (λ t. option_or (if_among row.answer (Some l.kind)) t) (none_moved id (k + 1) rows es l is distinct (omega (arith, at)))
     ∙ or_none (if_among row.answer (Some l.kind))
 moved_is id k (suc n) (row ∷ rows) es l is distinct at =
     ap (λ t. option_or (if_among row.answer t) (moved id (exchanges_from (k + 1) rows es)))
-      (in_request id k es distinct ∙ ap (λ o. kind_if k o) is ∙ ap (λ b. cond b (Some l.kind) None) (ne_eqb l.number k (λ e. omega (arith, at, e))))
+    (in_request id k es distinct ∙ ap (λ o. kind_if k o) is ∙ ap (λ b. cond b (Some l.kind) None) (ne_eqb l.number k (λ e. omega (arith, at, e))))
     ∙ moved_is id (k + 1) n rows es l is distinct (omega (arith, at))
 
 pub unmoved : (id k : ℕ) (rows : List Row) (es : Listings) → lookup (nat_eq id) es ≡ None → IsDistinct nat_eq (keys_of es) → moved id (exchanges_from k rows es) ≡ None

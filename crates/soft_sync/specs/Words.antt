@@ -88,9 +88,9 @@ why_not reliable lossy w =
     if nat_lt w.version 3 then Some (OldVersion w.version)
     else if is_empty ids then Some Empty
     else option_or (option_map UnknownChannel (find (λ id. not (is_open_channel id w)) ids))
-      (option_or (option_map Repeated (first_repeated [] ids))
-      (option_or (option_map AlreadyListed (find (λ id. is_some (listed id w.made)) ids))
-      (option_map TunnelNotOpen (first_closed reliable lossy w.opened))))
+    (option_or (option_map Repeated (first_repeated [] ids))
+    (option_or (option_map AlreadyListed (find (λ id. is_some (listed id w.made)) ids))
+    (option_map TunnelNotOpen (first_closed reliable lossy w.opened))))
 
 -- ---- the ids that were told of
 

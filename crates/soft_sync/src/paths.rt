@@ -205,14 +205,20 @@ impl Paths {
     pub fn outward(&self, id: u32) -> Path
         ensures { result ≡ outward id self.now }
     {
-        self.made.listed(id).or(self.read.moved(id)).map_or(Path::Main, Path::Tunnel)
+        self.made
+            .listed(id)
+            .or(self.read.moved(id))
+            .map_or(Path::Main, Path::Tunnel)
     }
 
     /// The path of what the other end sends for a channel, by the words that were read.
     pub fn inward(&self, id: u32) -> Path
         ensures { result ≡ inward id self.now }
     {
-        self.read.listed(id).or(self.made.moved(id)).map_or(Path::Main, Path::Tunnel)
+        self.read
+            .listed(id)
+            .or(self.made.moved(id))
+            .map_or(Path::Main, Path::Tunnel)
     }
 
     /// What becomes of data of a channel that came from this path.
@@ -255,7 +261,11 @@ impl Paths {
         if let Some(id) = first_repeated(&[], reliable).or(first_repeated(reliable, lossy)) {
             return Some(SyncRefusal::Repeated { id });
         }
-        if let Some(id) = self.made.first_listed(reliable).or(self.made.first_listed(lossy)) {
+        if let Some(id) = self
+            .made
+            .first_listed(reliable)
+            .or(self.made.first_listed(lossy))
+        {
             return Some(SyncRefusal::AlreadyListed { id });
         }
         if let Some(kind) = self.first_closed(reliable, lossy) {
@@ -308,7 +318,11 @@ fn is_empty(ids: &[u32]) -> bool
 fn are_empty(reliable: &[u32], lossy: &[u32]) -> bool
     ensures { result ≡ is_empty (reliable.now ++ lossy.now) }
 {
-    if is_empty(reliable) { is_empty(lossy) } else { false }
+    if is_empty(reliable) {
+        is_empty(lossy)
+    } else {
+        false
+    }
 }
 
 /// The first id that stands before it too, or among those that were seen.

@@ -22,13 +22,17 @@ invariant_of-self c =
     let fits = c.requires.fits in
     let stored = kept_stored c.args.id c.args.at mid.records.items mid.bytes.items pdu made.stored short (omega (arith, place.0)) (omega (arith, place.1)) in
     let held : held_in new.records.items new.bytes.items ≡ held_in old.rings.records.items old.rings.bytes.items ++ (pdu_of c.args.id c.args.at pdu ∷ []) =
-        ap (λ t. held_in t new.bytes.items) records ∙ ap (λ t. held_in (mid.records.items ++ (record_of c.args.id c.args.at (length pdu) ∷ [])) t) bytes
-        ∙ kept_held c.args.id c.args.at mid.records.items mid.bytes.items pdu made.stored ∙ ap (λ t. t ++ (pdu_of c.args.id c.args.at pdu ∷ [])) made.held in
+    ap (λ t. held_in t new.bytes.items) records ∙ ap (λ t. held_in (mid.records.items ++ (record_of c.args.id c.args.at (length pdu) ∷ [])) t) bytes
+    ∙ kept_held c.args.id c.args.at mid.records.items mid.bytes.items pdu made.stored ∙ ap (λ t. t ++ (pdu_of c.args.id c.args.at pdu ∷ [])) made.held in
     let weight_is = ap weight held ∙ weight-append (held_in old.rings.records.items old.rings.bytes.items) (pdu_of c.args.id c.args.at pdu ∷ []) in
     let counted = (c.self.invariant).3 in
-    let same = ap weight c.self.view_is in
-    (subst (λ t. IsStored t new.bytes.items) (sym records) (subst (λ t. IsStored (mid.records.items ++ (record_of c.args.id c.args.at (length pdu) ∷ [])) t) (sym bytes) stored),
-     room, bytes_room, omega (arith, weight_is, counted), omega (arith, counted, same, fits))
+    let same = ap weight c.self.view_is in (
+      subst (λ t. IsStored t new.bytes.items) (sym records) (subst (λ t. IsStored (mid.records.items ++ (record_of c.args.id c.args.at (length pdu) ∷ [])) t) (sym bytes) stored),
+      room,
+      bytes_room,
+      omega (arith, weight_is, counted),
+      omega (arith, counted, same, fits),
+    )
 
 pub returns : goal.returns
 returns c =

@@ -10,14 +10,14 @@ pub returns-in_err-index-clause-released : goal.returns-in_err-index-clause-rele
 returns-in_err-index-clause-released c =
     let m = c.self.inside.rings in
     let none : oldest c.args.id c.args.self.now ≡ None =
-        subst (λ h. oldest c.args.id h ≡ None) c.self.view_is (none_oldest c.args.id m.records.items m.bytes.items c.in_err-index.ensures.none) in
+    subst (λ h. oldest c.args.id h ≡ None) c.self.view_is (none_oldest c.args.id m.records.items m.bytes.items c.in_err-index.ensures.none) in
     c.from_residual.ensures ∙ sym (ap (λ o. option_map (λ (pdu : Pdu). (pdu.at, length pdu.bytes)) o) none)
 
 pub returns-in_err-index-clause-bytes : goal.returns-in_err-index-clause-bytes
 returns-in_err-index-clause-bytes c =
     let m = c.self.inside.rings in
     let none : oldest c.args.id c.args.self.now ≡ None =
-        subst (λ h. oldest c.args.id h ≡ None) c.self.view_is (none_oldest c.args.id m.records.items m.bytes.items c.in_err-index.ensures.none) in
+    subst (λ h. oldest c.args.id h ≡ None) c.self.view_is (none_oldest c.args.id m.records.items m.bytes.items c.in_err-index.ensures.none) in
     sym (ap (λ o. with_bytes o c.args.out.now) none)
 
 pub returns-in_err-index-clause-removed : goal.returns-in_err-index-clause-removed
@@ -63,7 +63,7 @@ invariant_of-self c =
     let weight_is = f.weight_is in
     let same = ap weight c.self.view_is in
     let left : held_in c.forget.new.self.records.items c.forget.new.self.bytes.items ≡ without_oldest c.args.id c.args.self.now =
-        c.forget.ensures.held k.record (k.ensures.first).is ∙ removed c.args.id k.index k.place m.records.items m.bytes.items c.args.self.now k.record k.ensures.first c.self.view_is in
+    c.forget.ensures.held k.record (k.ensures.first).is ∙ removed c.args.id k.index k.place m.records.items m.bytes.items c.args.self.now k.record k.ensures.first c.self.view_is in
     let weight_left = ap weight left in
     (c.forget.ensures.stored, c.forget.ensures.same.0 ∙ room, c.forget.ensures.same.1 ∙ bytes_room, omega (arith, counted, weight_is, same, weight_left), omega (arith, within))
 

@@ -4,7 +4,7 @@ use Rattle.soft_sync.proofs.Answering.{AreGiven, behind_at, none_behind, given_m
 use Rattle.soft_sync.proofs.exchanges.Exchanges.behind.Goals as goal
 
 pub returns-then-not-row : goal.returns-then-not-row
-returns-then-not-row c = 
+returns-then-not-row c =
     let s = c.args.self.now in
     let n = c.loop-number.number in
     let e = c.in-Some.ensures.lookup in

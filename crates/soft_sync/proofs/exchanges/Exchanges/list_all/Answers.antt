@@ -11,5 +11,5 @@ list-requires-clause-once c =
     let ids = c.args.ids.now in
     let i = c.loop-id.id-index in
     let once : first_repeated (keys_of es) (get_or ids i 0 ∷ drop (i + 1) ids) ≡ None =
-        sym (ap (λ t. first_repeated (keys_of es) t) (drop_more ids i 0 c.loop-id-test.true)) ∙ c.loop-id.invariant.once in
+    sym (ap (λ t. first_repeated (keys_of es) t) (drop_more ids i 0 c.loop-id-test.true)) ∙ c.loop-id.invariant.once in
     no_entry (get_or ids i 0) es (not_seen (keys_of es) (drop (i + 1) ids) (get_or ids i 0) once).0

@@ -32,7 +32,7 @@ returns-then-has c =
     let there : slice_get s.rows.items l.number ≡ Some row = read_at c.deref.result.now s.rows.items l.number row c.deref.ensures.value e.3.0 e.1 in
     let h : has l.kind row.answer ≡ true = sym c.has.ensures ∙ c.if-has.true in
     sym (moved_is c.args.id 0 l.number s.rows.items s.listings.entries l is (c.requires.kept).once (omega arith)
-      ∙ ap (λ k. cond (has l.kind k) (Some l.kind) None) (answer_there l.number s.rows.items row there) ∙ ap (λ b. cond b (Some l.kind) None) h)
+    ∙ ap (λ k. cond (has l.kind k) (Some l.kind) None) (answer_there l.number s.rows.items row there) ∙ ap (λ b. cond b (Some l.kind) None) h)
 
 pub returns-else-has : goal.returns-else-has
 returns-else-has c =
@@ -44,4 +44,4 @@ returns-else-has c =
     let there : slice_get s.rows.items l.number ≡ Some row = read_at c.deref.result.now s.rows.items l.number row c.deref.ensures.value e.3.0 e.1 in
     let h : has l.kind row.answer ≡ false = sym c.has.ensures ∙ c.if-has.false in
     sym (moved_is c.args.id 0 l.number s.rows.items s.listings.entries l is (c.requires.kept).once (omega arith)
-      ∙ ap (λ k. cond (has l.kind k) (Some l.kind) None) (answer_there l.number s.rows.items row there) ∙ ap (λ b. cond b (Some l.kind) None) h)
+    ∙ ap (λ k. cond (has l.kind k) (Some l.kind) None) (answer_there l.number s.rows.items row there) ∙ ap (λ b. cond b (Some l.kind) None) h)

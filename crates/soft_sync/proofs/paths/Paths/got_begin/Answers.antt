@@ -28,7 +28,8 @@ returns-clause-begun c =
     let row = row_of (record { reliable = c.args.reliable; lossy = c.args.lossy }) in
     let new = c.begin.new.self in
     let read : exchanges_in new.rows.items new.listings.entries ≡ exchanges_in s.rows.items s.listings.entries ++ (more ∷ []) =
-        ap (λ r. exchanges_in r new.listings.entries) e.rows ∙ ap (λ l. exchanges_in (s.rows.items ++ (row ∷ [])) l.entries) e.listings
-        ∙ begun s.rows.items row s.listings.entries (((c.self.invariant).2).kept).numbered in
-    (omega (arith, long, count, number),
-     ap (λ (x : List Exchange). let w = the_view c.self.inside in record w { read = x }) read ∙ ap (λ (w : Words). record w { read = w.read ++ (more ∷ []) }) c.self.view_is)
+    ap (λ r. exchanges_in r new.listings.entries) e.rows ∙ ap (λ l. exchanges_in (s.rows.items ++ (row ∷ [])) l.entries) e.listings
+    ∙ begun s.rows.items row s.listings.entries (((c.self.invariant).2).kept).numbered in (
+      omega (arith, long, count, number),
+      ap (λ (x : List Exchange). let w = the_view c.self.inside in record w { read = x }) read ∙ ap (λ (w : Words). record w { read = w.read ++ (more ∷ []) }) c.self.view_is,
+    )

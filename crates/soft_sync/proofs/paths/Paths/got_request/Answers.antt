@@ -38,11 +38,15 @@ invariant_of-self c =
     let told = subst (λ x. IsSome (lookup (nat_eq c.args.id) x)) (sym channels) (is_told c.args.id c.args.self.now.channels) in
     let P = λ (l : ℕ × Listing). IsSome (lookup (nat_eq l.0) c.self.inside.channels.entries) in
     let Q = λ (id : ℕ). IsSome (lookup (nat_eq id) c.self.inside.channels.entries) in
-    let new = under (length m.rows.items - 1) c.args.kind (c.args.id ∷ []) in
-    (i.0, i.1, c.list.ensures.roomy, i.3,
-     subst (λ (l : Listings). AreAmong l c.self.inside.channels.entries) (sym c.list.ensures.listings)
-       (All-append P m.listings.entries new i.4 (among_under (length m.rows.items - 1) c.args.kind (c.args.id ∷ []) c.self.inside.channels.entries (All-cons Q c.args.id [] told (All-nil Q)))),
-     i.5)
+    let new = under (length m.rows.items - 1) c.args.kind (c.args.id ∷ []) in (
+      i.0,
+      i.1,
+      c.list.ensures.roomy,
+      i.3,
+      subst (λ (l : Listings). AreAmong l c.self.inside.channels.entries) (sym c.list.ensures.listings)
+          (All-append P m.listings.entries new i.4 (among_under (length m.rows.items - 1) c.args.kind (c.args.id ∷ []) c.self.inside.channels.entries (All-cons Q c.args.id [] told (All-nil Q)))),
+      i.5,
+    )
 
 pub returns : goal.returns
 returns c =
@@ -54,6 +58,6 @@ returns c =
     let n = length m.rows.items - 1 in
     let new = c.list.new.self in
     let read : exchanges_in new.rows.items new.listings.entries ≡ with_channel c.args.id c.args.kind (exchanges_in m.rows.items m.listings.entries) =
-        ap (λ r. exchanges_in r.items new.listings.entries) c.list.ensures.rows ∙ ap (λ l. exchanges_in m.rows.items l) c.list.ensures.listings
-        ∙ more_listed c.args.id n 0 c.args.kind m.rows.items m.listings.entries (omega (arith, long, count, begun)) in
+    ap (λ r. exchanges_in r.items new.listings.entries) c.list.ensures.rows ∙ ap (λ l. exchanges_in m.rows.items l) c.list.ensures.listings
+    ∙ more_listed c.args.id n 0 c.args.kind m.rows.items m.listings.entries (omega (arith, long, count, begun)) in
     ap (λ (x : List Exchange). let w = the_view c.self.inside in record w { read = x }) read ∙ ap (λ (w : Words). record w { read = with_channel c.args.id c.args.kind w.read }) is

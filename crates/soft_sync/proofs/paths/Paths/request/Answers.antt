@@ -70,7 +70,7 @@ list_all-requires-2-clause-once c =
     let rows1 = c.begin.ensures.rows in
     let es2 = c.list_all.ensures.listings in
     let keys : keys_of c.list_all.new.self.listings.entries ≡ keys_of m.listings.entries ++ c.args.reliable.now =
-        ap (λ (l : Listings). keys_of l) es2 ∙ keys_more _ Reliable c.begin.new.self.listings.entries c.args.reliable.now ∙ ap (λ (l : Listings). keys_of l ++ c.args.reliable.now) es1 in
+    ap (λ (l : Listings). keys_of l) es2 ∙ keys_more _ Reliable c.begin.new.self.listings.entries c.args.reliable.now ∙ ap (λ (l : Listings). keys_of l ++ c.args.reliable.now) es1 in
     subst (λ (k : List ℕ). first_repeated k c.args.lossy.now ≡ None) (sym keys) r.once_more
 
 pub invariant_of-self : goal.invariant_of-self
@@ -89,18 +89,23 @@ invariant_of-self c =
     let rows3 : c.list_all-2.new.self.rows.items ≡ m.rows.items ++ (row ∷ []) = ap (λ r. r.items) c.list_all-2.ensures.rows ∙ rows2 in
     let es3 = c.list_all-2.ensures.listings in
     let listings : c.list_all-2.new.self.listings.entries ≡ (m.listings.entries ++ under n Reliable c.args.reliable.now) ++ under n Lossy c.args.lossy.now =
-        es3 ∙ ap (λ k. c.list_all.new.self.listings.entries ++ under k Lossy c.args.lossy.now) (last_number m.rows.items c.list_all.new.self.rows.items row rows2)
-        ∙ ap (λ l. l ++ under n Lossy c.args.lossy.now)
-          (es2 ∙ ap (λ k. c.begin.new.self.listings.entries ++ under k Reliable c.args.reliable.now) (last_number m.rows.items c.begin.new.self.rows.items row rows1)
-          ∙ ap (λ l. l ++ under n Reliable c.args.reliable.now) es1) in
+    es3 ∙ ap (λ k. c.list_all.new.self.listings.entries ++ under k Lossy c.args.lossy.now) (last_number m.rows.items c.list_all.new.self.rows.items row rows2)
+    ∙ ap (λ l. l ++ under n Lossy c.args.lossy.now)
+    (es2 ∙ ap (λ k. c.begin.new.self.listings.entries ++ under k Reliable c.args.reliable.now) (last_number m.rows.items c.begin.new.self.rows.items row rows1)
+    ∙ ap (λ l. l ++ under n Reliable c.args.reliable.now) es1) in
     let long = ap (λ r. length r) rows3 ∙ length-append m.rows.items (row ∷ []) in
     let longer = length-listed _ c.list_all.new.self.listings.entries c.list_all-2.new.self.listings.entries Lossy c.args.lossy.now es3 in
     let less = length-listed _ c.begin.new.self.listings.entries c.list_all.new.self.listings.entries Reliable c.args.reliable.now es2 in
     let least = ap (λ (l : Listings). length l) es1 in
     let some = r.some in
-    let fewer = i.5 in
-    (i.0, c.list_all-2.ensures.roomy, i.2, subst (λ l. AreAmong l w.channels) (sym listings) (among_both n c.args.reliable.now c.args.lossy.now m.listings.entries w.channels i.3 r.told), i.4,
-     omega (arith, long, longer, less, least, some, fewer))
+    let fewer = i.5 in (
+      i.0,
+      c.list_all-2.ensures.roomy,
+      i.2,
+      subst (λ l. AreAmong l w.channels) (sym listings) (among_both n c.args.reliable.now c.args.lossy.now m.listings.entries w.channels i.3 r.told),
+      i.4,
+      omega (arith, long, longer, less, least, some, fewer),
+    )
 
 pub returns-clause-made : goal.returns-clause-made
 returns-clause-made c =
@@ -118,14 +123,14 @@ returns-clause-made c =
     let rows3 : c.list_all-2.new.self.rows.items ≡ m.rows.items ++ (row ∷ []) = ap (λ r. r.items) c.list_all-2.ensures.rows ∙ rows2 in
     let es3 = c.list_all-2.ensures.listings in
     let listings : c.list_all-2.new.self.listings.entries ≡ (m.listings.entries ++ under n Reliable c.args.reliable.now) ++ under n Lossy c.args.lossy.now =
-        es3 ∙ ap (λ k. c.list_all.new.self.listings.entries ++ under k Lossy c.args.lossy.now) (last_number m.rows.items c.list_all.new.self.rows.items row rows2)
-        ∙ ap (λ l. l ++ under n Lossy c.args.lossy.now)
-          (es2 ∙ ap (λ k. c.begin.new.self.listings.entries ++ under k Reliable c.args.reliable.now) (last_number m.rows.items c.begin.new.self.rows.items row rows1)
-          ∙ ap (λ l. l ++ under n Reliable c.args.reliable.now) es1) in
+    es3 ∙ ap (λ k. c.list_all.new.self.listings.entries ++ under k Lossy c.args.lossy.now) (last_number m.rows.items c.list_all.new.self.rows.items row rows2)
+    ∙ ap (λ l. l ++ under n Lossy c.args.lossy.now)
+    (es2 ∙ ap (λ k. c.begin.new.self.listings.entries ++ under k Reliable c.args.reliable.now) (last_number m.rows.items c.begin.new.self.rows.items row rows1)
+    ∙ ap (λ l. l ++ under n Reliable c.args.reliable.now) es1) in
     let made : exchanges_in c.list_all-2.new.self.rows.items c.list_all-2.new.self.listings.entries
-        ≡ exchanges_in m.rows.items m.listings.entries ++ (unanswered (request_of c.args.reliable.now c.args.lossy.now) ∷ []) =
-        made_by m.rows.items _ row m.listings.entries _ c.args.reliable.now c.args.lossy.now ((i.1).kept).numbered (record { rows_are = rows3; listings_are = listings })
-        ∙ ap (λ b. exchanges_in m.rows.items m.listings.entries ++ (unanswered (record { named = record { reliable = not b; lossy = not c.is_empty-2.result }; channels = (request_of c.args.reliable.now c.args.lossy.now).channels }) ∷ [])) c.is_empty.ensures
-        ∙ ap (λ b. exchanges_in m.rows.items m.listings.entries ++ (unanswered (record { named = record { reliable = not (is_empty c.args.reliable.now); lossy = not b }; channels = (request_of c.args.reliable.now c.args.lossy.now).channels }) ∷ [])) c.is_empty-2.ensures in
+    ≡ exchanges_in m.rows.items m.listings.entries ++ (unanswered (request_of c.args.reliable.now c.args.lossy.now) ∷ []) =
+    made_by m.rows.items _ row m.listings.entries _ c.args.reliable.now c.args.lossy.now ((i.1).kept).numbered (record { rows_are = rows3; listings_are = listings })
+    ∙ ap (λ b. exchanges_in m.rows.items m.listings.entries ++ (unanswered (record { named = record { reliable = not b; lossy = not c.is_empty-2.result }; channels = (request_of c.args.reliable.now c.args.lossy.now).channels }) ∷ [])) c.is_empty.ensures
+    ∙ ap (λ b. exchanges_in m.rows.items m.listings.entries ++ (unanswered (record { named = record { reliable = not (is_empty c.args.reliable.now); lossy = not b }; channels = (request_of c.args.reliable.now c.args.lossy.now).channels }) ∷ [])) c.is_empty-2.ensures in
     ap (λ (x : List Exchange). record w { made = x }) made
     ∙ ap (λ (v : Words). record v { made = v.made ++ (unanswered (request_of c.args.reliable.now c.args.lossy.now) ∷ []) }) c.self.view_is
