@@ -1,3 +1,6 @@
+pub use Rattle.mt_script.specs.Lines
+pub use Rattle.mt_script.specs.Meaning
+pub use Rattle.mt_script.specs.Spelling
 pub mod Frames
 pub mod Acts
 pub mod Ends
