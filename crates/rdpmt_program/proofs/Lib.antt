@@ -1,3 +1,4 @@
 pub mod Loop
 pub mod Runs
 pub mod Rows
+pub mod Causes

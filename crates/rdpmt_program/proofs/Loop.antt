@@ -1,5 +1,5 @@
 -- One line in the loop over the lines of a script.
-use Rattle.std.proofs.Common.{◌≡◌, ◌≢◌, ℕ, suc, ◌+◌, ◌<◌, List, ◌∷◌, length, drop, get_or, add-one, Result, Ok, Err, refl, sym, ap, subst, ◌∙◌}
+use Rattle.std.proofs.Common.{◌≡◌, ℕ, suc, ◌+◌, ◌<◌, List, ◌∷◌, length, drop, get_or, add-one, Result, Ok, Err, sym, ap, subst, ◌∙◌}
 use Rattle.std.proofs.Math.Seq.{drop-cons}
 use Rattle.mt_base.specs.declared.kinds.Role.{Role}
 use Rattle.mt_base.specs.Trace.{Trace}
@@ -11,8 +11,7 @@ use Rattle.mt_world.specs.Acts.{Entry}
 use Rattle.mt_world.specs.Play.{start, play, played, Ending, RefusedAt}
 use Rattle.mt_world.specs.WorldView.{Stands, Steps}
 use Rattle.rdpmt_program.specs.declared.playing.Stop.{Stop}
-use Rattle.rdpmt_program.specs.declared.playing.Stop.TheVariants as stop
-use Rattle.rdpmt_program.specs.Fate.{Plays}
+use Rattle.rdpmt_program.specs.Fate.{stop_of, Plays}
 
 -- what a play goes on with after a line
 goes_on : Trace (Role × Entry) → Line → List Line → Result (Trace (Role × Entry)) StepRefusal → Trace (Role × Entry) × Ending
@@ -32,17 +31,17 @@ unfolding goes_on
 ends w line left rest all cause is before s =
     (w, sym before ∙ ap (play w) is ∙ ap (goes_on w line rest) s)
 
-pub refused : (new : World) (w : Trace (Role × Entry)) (line : Line) (left rest all : List Line) (cause : StepRefusal) (how : Stop) → left ≡ line ∷ rest → play w left ≡ play start all
-    → (cause ≡ NoMemory → how ≡ stop.NoMemory) → (cause ≢ NoMemory → how ≡ stop.RefusedAt line.number cause) → Steps (Err cause) new w (played w line.event) → Plays (Err how) (play start all)
-refused new w line left rest all NoMemory how is before memory other s =
+pub refused : (new : World) (w : Trace (Role × Entry)) (line : Line) (left rest all : List Line) (refusal : StepRefusal) (how : Stop) → left ≡ line ∷ rest → play w left ≡ play start all
+    → how ≡ stop_of refusal line.number → Steps (Err refusal) new w (played w line.event) → Plays (Err how) (play start all)
+refused new w line left rest all NoMemory how is before stops s =
     let P : Stop → Type 0 = λ x. Plays (Err x) (play start all) in
-    subst P (sym (memory refl)) tt
-refused new w line left rest all UnknownChannel how is before memory other s =
+    subst P (sym stops) tt
+refused new w line left rest all UnknownChannel how is before stops s =
     let P : Stop → Type 0 = λ x. Plays (Err x) (play start all) in
-    subst P (sym (other (λ e. cc))) (ends w line left rest all UnknownChannel is before s.0)
-refused new w line left rest all (Refused cause) how is before memory other s =
+    subst P (sym stops) (ends w line left rest all UnknownChannel is before s.0)
+refused new w line left rest all (Refused why) how is before stops s =
     let P : Stop → Type 0 = λ x. Plays (Err x) (play start all) in
-    subst P (sym (other (λ e. cc))) (ends w line left rest all (Refused cause) is before s.0)
+    subst P (sym stops) (ends w line left rest all (Refused why) is before s.0)
 
 -- the lines that are left begin with the next one
 pub first : (lines : List Line) (i : ℕ) (line : Line) → i < length lines → line ≡ get_or lines i line → drop i lines ≡ line ∷ drop (i + 1) lines

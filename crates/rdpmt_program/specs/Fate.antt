@@ -13,6 +13,9 @@ use Rattle.mt_outside.specs.Files.{Contents, Holds, Lacks}
 use Rattle.mt_outside.specs.Told.{added}
 use Rattle.rdpmt_program.specs.declared.fault.Fault.{Fault}
 use Rattle.rdpmt_program.specs.declared.fault.Fault.TheVariants.{Usage, Refused, File, Limit, NoMemory}
+use Rattle.mt_world.specs.declared.refusal.StepRefusal.{StepRefusal}
+use Rattle.mt_world.specs.declared.refusal.StepRefusal.TheVariants as step
+use Rattle.rdpmt_program.specs.declared.cause.Cause.TheVariants as cause
 use Rattle.rdpmt_program.specs.declared.playing.Stop.{Stop}
 use Rattle.rdpmt_program.specs.declared.playing.Stop.TheVariants as stop
 use Rattle.rdpmt_program.specs.declared.words.Command.{Command}
@@ -20,7 +23,7 @@ use Rattle.rdpmt_program.specs.declared.words.Command.TheVariants.{Play, Show}
 use Rattle.mt_show.specs.declared.refusal.ShowRefusal.TheVariants.{BadLine}
 use Rattle.mt_show.specs.Answer.{ShownAs}
 use Rattle.rdpmt_program.specs.Command.{IsPlay, IsShow, IsCommand, usage_line}
-use Rattle.rdpmt_program.specs.Script.{PlaysTo, IsRefused, byte_limit, refused_line}
+use Rattle.rdpmt_program.specs.Script.{PlaysTo, IsRefused, refusal_of, byte_limit, refused_line}
 use Rattle.rdpmt_program.specs.Table.{IsTextOf, PassesLimit, Reports, RefusesLine, file_fault_line, no_memory_line, limit_line}
 
 -- what the words were read as
@@ -57,10 +60,16 @@ Refuses Usage text = ⊥
 Refuses File text = ⊥
 Refuses Limit text = ⊥
 
+-- how a step's refusal stops the play at a line
+abbrev pub stop_of : StepRefusal → ℕ → Stop
+stop_of step.UnknownChannel line = stop.RefusedAt line cause.UnknownChannel
+stop_of (step.Refused why) line = stop.RefusedAt line (cause.Refused why)
+stop_of step.NoMemory line = stop.NoMemory
+
 -- what a play of lines came to, against the list that Play gives
 abbrev pub Plays : Result World Stop → Trace (Role × Entry) × Ending → Type 0
 Plays (Ok world) answer = (list : Trace (Role × Entry)) × (answer ≡ (list, Done)) × Stands world list
-Plays (Err (stop.RefusedAt line cause)) answer = (list : Trace (Role × Entry)) × (answer ≡ (list, RefusedAt line cause))
+Plays (Err (stop.RefusedAt line cause)) answer = (list : Trace (Role × Entry)) × (answer ≡ (list, RefusedAt line (refusal_of cause)))
 Plays (Err stop.NoMemory) answer = Unit {0}
 
 -- what the play of a text came to

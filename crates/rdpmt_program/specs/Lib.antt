@@ -2,3 +2,4 @@ pub mod Command
 pub mod Script
 pub mod Table
 pub mod Fate
+pub mod Outcome

@@ -14,6 +14,8 @@ use Rattle.mt_world.specs.declared.refusal.SendRefusal.TheVariants as send_refus
 use Rattle.mt_world.specs.declared.refusal.Refused.TheVariants as refused
 use Rattle.mt_world.specs.declared.refusal.StepRefusal.{StepRefusal}
 use Rattle.mt_world.specs.declared.refusal.StepRefusal.TheVariants as step_refusal
+use Rattle.rdpmt_program.specs.declared.cause.Cause.{Cause}
+use Rattle.rdpmt_program.specs.declared.cause.Cause.TheVariants as cause
 use Rattle.mt_world.specs.Acts.{Entry}
 use Rattle.mt_world.specs.Net.{Safe}
 use Rattle.mt_world.specs.Play.{start, play, Done, RefusedAt}
@@ -30,22 +32,26 @@ pub record PlaysTo (text output : List ℕ) : Type 0 where
   pub reported : output ≡ report list
   pub safe : Safe list
 
--- the innermost name of what refused a step
-abbrev pub open_reason : OpenRefusal → List ℕ
-open_reason open_refusal.NotReady = codes "NotReady"
-open_reason (open_refusal.BadName at) = codes "BadName"
-open_reason (open_refusal.TooMany limit) = codes "TooMany"
+-- the refusal of a step that a cause is
+abbrev pub refusal_of : Cause → StepRefusal
+refusal_of cause.UnknownChannel = step_refusal.UnknownChannel
+refusal_of (cause.Refused why) = step_refusal.Refused why
 
-abbrev pub send_reason : SendRefusal → List ℕ
-send_reason send_refusal.UnknownChannel = codes "UnknownChannel"
-send_reason send_refusal.NotOpen = codes "NotOpen"
-send_reason (send_refusal.MessageTooLong limit) = codes "MessageTooLong"
+-- the innermost name of a cause
+abbrev pub open_name : OpenRefusal → List ℕ
+open_name open_refusal.NotReady = codes "NotReady"
+open_name (open_refusal.BadName at) = codes "BadName"
+open_name (open_refusal.TooMany limit) = codes "TooMany"
 
-abbrev pub step_reason : StepRefusal → List ℕ
-step_reason step_refusal.UnknownChannel = codes "UnknownChannel"
-step_reason (step_refusal.Refused (refused.Open cause)) = open_reason cause
-step_reason (step_refusal.Refused (refused.Send cause)) = send_reason cause
-step_reason step_refusal.NoMemory = codes "NoMemory"
+abbrev pub send_name : SendRefusal → List ℕ
+send_name send_refusal.UnknownChannel = codes "UnknownChannel"
+send_name send_refusal.NotOpen = codes "NotOpen"
+send_name (send_refusal.MessageTooLong limit) = codes "MessageTooLong"
+
+abbrev pub cause_name : Cause → List ℕ
+cause_name cause.UnknownChannel = codes "UnknownChannel"
+cause_name (cause.Refused (refused.Open why)) = open_name why
+cause_name (cause.Refused (refused.Send why)) = send_name why
 
 -- what is printed of a line that is refused
 abbrev pub refused_line : ℕ → List ℕ → List ℕ
@@ -56,8 +62,8 @@ refused_line line reason = codes "refused line " ++ decimal line ++ codes " " ++
 pub data IsRefused (text output : List ℕ) : Type 0 where
   command : (line : ℕ) → ReadsAs text (Err (BadCommand line)) → output ≡ refused_line line (codes "BadCommand") → IsRefused text output
   words : (line : ℕ) → ReadsAs text (Err (BadWords line)) → output ≡ refused_line line (codes "BadWords") → IsRefused text output
-  step : (lines : List Line) (list : Trace (Role × Entry)) (line : ℕ) (cause : StepRefusal) → ReadsAs text (Ok lines)
-      → play start lines ≡ (list, RefusedAt line cause) → output ≡ refused_line line (step_reason cause) → IsRefused text output
+  step : (lines : List Line) (list : Trace (Role × Entry)) (line : ℕ) (why : Cause) → ReadsAs text (Ok lines)
+      → play start lines ≡ (list, RefusedAt line (refusal_of why)) → output ≡ refused_line line (cause_name why) → IsRefused text output
 
 -- the most bytes that a script or a show file has
 abbrev pub byte_limit : ℕ

@@ -10,7 +10,7 @@ use Rattle.mt_show.specs.Grammar.{Keeps}
 use Rattle.mt_show.specs.Answer.{ShownAs}
 use Rattle.mt_world.specs.Acts.{Entry}
 use Rattle.mt_world.specs.Play.{start, play, Done}
-use Rattle.mt_outside.specs.Faults.{Rose}
+use Rattle.mt_outside.specs.Faults.{Counts, Rose}
 use Rattle.mt_outside.specs.Files.{Contents, Holds, Lacks}
 use Rattle.mt_outside.specs.Told.{added}
 use Rattle.rdpmt_program.specs.Command.{IsPlay, IsShow, AsksFor, IsCommand, usage_line}
@@ -66,12 +66,12 @@ pub data RefusesLine (words : List (List ℕ)) (told : Option Contents) (output 
       → output ≡ refused_line line (codes "BadLine") → RefusesLine words told output
 
 -- The table: a status, the cause that it comes from alone, and what is printed. The store told this
--- of its files, and its count of faults was `before` and is `after`.
-pub data Row (words : List (List ℕ)) (told : Option Contents) (before after : ℕ) (status : ℕ) (output : List ℕ) : Type 0 where
+-- of its files, and the counts of faults were `before` and are `after`.
+pub data Row (words : List (List ℕ)) (told : Option Contents) (before after : Counts) (status : ℕ) (output : List ℕ) : Type 0 where
   done : Reports words told output → status ≡ 0 → Row words told before after status output
   usage : ¬ IsCommand words → output ≡ usage_line → status ≡ 1 → Row words told before after status output
   refused : RefusesLine words told output → status ≡ 2 → Row words told before after status output
-  file_fault : IsCommand words → Rose before after → output ≡ file_fault_line → status ≡ 3 → Row words told before after status output
+  file_fault : IsCommand words → Rose before.store after.store → output ≡ file_fault_line → status ≡ 3 → Row words told before after status output
   no_memory : IsCommand words → output ≡ no_memory_line → status ≡ 9 → Row words told before after status output
   limit : PassesLimit words told → output ≡ limit_line → status ≡ 11 → Row words told before after status output
 
@@ -101,8 +101,20 @@ pub record IsPlayable (text : List ℕ) : Type 0 where
   pub reads : ReadsAs text (Ok lines)
   pub played : play start lines ≡ (list, Done)
 
+-- a text within the limits that is a script of which a line is refused, by the grammar or by its step
+pub record IsRefusable (text : List ℕ) : Type 0 where
+  pub fits : length text ≤ byte_limit
+  pub output : List ℕ
+  pub refused : IsRefused text output
+
 -- a text within the limits whose lines keep the grammar of a show file
 pub record IsShowable (text : List ℕ) : Type 0 where
   pub fits : length text ≤ byte_limit
   pub short : IsShort text
   pub keeps : All Keeps (lines_of text)
+
+-- a text within the limits of which this line is the first that breaks that grammar
+pub record IsUnshowable (text : List ℕ) : Type 0 where
+  pub fits : length text ≤ byte_limit
+  pub line : ℕ
+  pub broken : ShownAs text (Err (BadLine line))

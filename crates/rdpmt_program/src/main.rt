@@ -2,11 +2,12 @@
 //! and what was delivered of it; and it shows the datagrams of a show file.
 //!
 //! [`rdpmt`](top::rdpmt) is the whole program over a store of files and a sink; `main` gives it the
-//! words of the call and the machine's devices. Below it stand `mt_world`, which plays, `mt_script`,
-//! which reads scripts, `mt_show`, which shows, and `mt_outside`, which has the devices. The contract of `rdpmt` names the
-//! only cause of each status, and what is printed with it.
+//! words of the call and the machine's devices. Below it stand `mt_world`, which reads scripts and
+//! plays them, `mt_show`, which shows, and `mt_outside`, which has the devices. The contract of
+//! `rdpmt` names the only cause of each status, and what is printed with it.
 #![tactic(auto)]
 
+mod cause;
 mod fault;
 mod playing;
 mod print;

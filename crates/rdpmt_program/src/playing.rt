@@ -4,36 +4,42 @@ ghost use Rattle.std.specs.Prelude.{◌≡◌, ℕ, List, replicate, IsErrOf};
 ghost use Rattle.mt_world.specs.Play.{start, play};
 ghost use Rattle.mt_outside.specs.Told.{added};
 ghost use Rattle.rdpmt_program.specs.Command.{IsPlay};
-ghost use Rattle.rdpmt_program.specs.Script.{step_reason};
 ghost use Rattle.rdpmt_program.specs.Fate.{Plays, Gives, Runs};
 
+use crate::cause::Cause;
 use crate::fault::Fault;
 use crate::reading::{read_text, refused};
 use mt_outside::FileStore;
-use mt_script::{Line, ScriptRefusal, Text, read_script};
-use mt_world::{OpenRefusal, Refused, SendRefusal, StepRefusal, World, plays_safely};
+use mt_world::{Line, ScriptRefusal, StepRefusal, Text, World, plays_safely, read_script};
 use std::alloc::Global;
 
 /// Why the lines of a script are not played to their end.
 #[derive(Clone, Copy)]
 enum Stop {
     /// The line of this number is refused.
-    RefusedAt { line: u64, cause: StepRefusal },
+    RefusedAt { line: u64, cause: Cause },
     /// Memory ran out.
     NoMemory,
 }
 
 impl Stop {
-    ghost use Rattle.std.specs.Prelude.{◌≡◌, ◌≢◌};
+    ghost use Rattle.std.specs.Prelude.{◌≡◌};
+    ghost use Rattle.rdpmt_program.specs.Fate.{stop_of};
 
-    /// The stop at a line that this cause stops.
-    fn at(line: u64, cause: StepRefusal) -> Stop
-        ensures memory { cause ≡ StepRefusal.NoMemory → result ≡ Stop.NoMemory }
-        ensures refused { cause ≢ StepRefusal.NoMemory → result ≡ Stop.RefusedAt line cause }
+    /// The stop at the line of this number, of which the step is refused.
+    fn at(line: u64, refusal: StepRefusal) -> Stop
+        ensures { result ≡ stop_of refusal line }
     {
-        match cause {
+        match refusal {
+            StepRefusal::UnknownChannel => Stop::RefusedAt {
+                line,
+                cause: Cause::UnknownChannel,
+            },
+            StepRefusal::Refused(refused) => Stop::RefusedAt {
+                line,
+                cause: Cause::Refused(refused),
+            },
             StepRefusal::NoMemory => Stop::NoMemory,
-            cause => Stop::RefusedAt { line, cause },
         }
     }
 }
@@ -69,7 +75,7 @@ fn play_text(alloc: Global, text: &[u8]) -> Result<Text, Fault>
     };
     let world = match play_lines(alloc, script.lines()) {
         Ok(world) => world,
-        Err(Stop::RefusedAt { line, cause }) => return Err(refused(alloc, line, reason(cause))),
+        Err(Stop::RefusedAt { line, cause }) => return Err(refused(alloc, line, cause.name())),
         Err(Stop::NoMemory) => return Err(Fault::NoMemory),
     };
     match world.report() {
@@ -88,24 +94,8 @@ fn play_lines(alloc: Global, lines: &[Line]) -> Result<World, Stop>
     for line in lines {
         match world.step(&line.event) {
             Ok(()) => {}
-            Err(cause) => return Err(Stop::at(line.number, cause)),
+            Err(refusal) => return Err(Stop::at(line.number, refusal)),
         }
     }
     Ok(world)
-}
-
-/// The innermost name of what refused a step.
-fn reason(cause: StepRefusal) -> &'static str
-    ensures { result.now ≡ step_reason cause }
-{
-    match cause {
-        StepRefusal::UnknownChannel => "UnknownChannel",
-        StepRefusal::Refused(Refused::Open(OpenRefusal::NotReady)) => "NotReady",
-        StepRefusal::Refused(Refused::Open(OpenRefusal::BadName { .. })) => "BadName",
-        StepRefusal::Refused(Refused::Open(OpenRefusal::TooMany { .. })) => "TooMany",
-        StepRefusal::Refused(Refused::Send(SendRefusal::UnknownChannel)) => "UnknownChannel",
-        StepRefusal::Refused(Refused::Send(SendRefusal::NotOpen)) => "NotOpen",
-        StepRefusal::Refused(Refused::Send(SendRefusal::MessageTooLong { .. })) => "MessageTooLong",
-        StepRefusal::NoMemory => "NoMemory",
-    }
 }

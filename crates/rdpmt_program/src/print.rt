@@ -5,7 +5,7 @@ ghost use Rattle.rdpmt_program.specs.Fate.{Tells, Printed};
 
 use crate::fault::Fault;
 use mt_outside::{Failed, Sink, write_all};
-use mt_script::Text;
+use mt_world::Text;
 
 /// What is printed where the words are not those of a command.
 const USAGE: &[u8] =

@@ -8,7 +8,7 @@ ghost use Rattle.rdpmt_program.specs.Fate.{ReadsText, Refuses};
 
 use crate::fault::Fault;
 use mt_outside::{FileStore, ReadFault, read_file};
-use mt_script::Text;
+use mt_world::Text;
 use std::alloc::Global;
 
 /// The most bytes that a script or a show file has.

@@ -8,8 +8,8 @@ ghost use Rattle.rdpmt_program.specs.Fate.{GivesShown, Runs};
 use crate::fault::Fault;
 use crate::reading::{read_text, refused};
 use mt_outside::FileStore;
-use mt_script::Text;
 use mt_show::{ShowRefusal, show};
+use mt_world::Text;
 use std::alloc::Global;
 
 /// Shows the show file of this name, and gives the answers to its lines.

@@ -1,10 +1,11 @@
 //! The whole program, over its devices.
 
-ghost use Rattle.std.specs.Prelude.{◌≡◌, ◌≢◌, ◌⊎◌, ℕ, List, IsErrOf};
-ghost use Rattle.mt_outside.specs.Faults.{Rose};
+ghost use Rattle.std.specs.Prelude.{◌≡◌, ◌⊎◌, ℕ, List, IsErrOf};
+ghost use Rattle.mt_outside.specs.Faults.{Counts};
 ghost use Rattle.rdpmt_program.specs.Command.{words_of, IsPlay, IsShow, AsksFor, IsCommand};
 ghost use Rattle.rdpmt_program.specs.Script.{IsTooLong};
-ghost use Rattle.rdpmt_program.specs.Table.{Row, Reports, WritesAll, WritesFront, AskedFor, Names, IsPlayable, IsShowable};
+ghost use Rattle.rdpmt_program.specs.Table.{Reports, WritesAll, AskedFor, Names, IsRefusable, IsUnshowable};
+ghost use Rattle.rdpmt_program.specs.Outcome.{Outcome};
 ghost use Rattle.rdpmt_program.specs.Fate.{Runs};
 
 use crate::fault::Fault;
@@ -13,8 +14,9 @@ use crate::print::tell;
 use crate::showing::show_file;
 use crate::words::{Command, read_words};
 use mt_outside::{FileStore, Sink};
-use mt_script::{Text, one_answer};
+use mt_script::one_answer;
 use mt_show::one_output;
+use mt_world::Text;
 use std::alloc::Global;
 
 /// Runs the command that the words are, prints its output or why there is none, and answers the
@@ -32,23 +34,18 @@ pub fn rdpmt<F: FileStore, K: Sink>(
 ) -> u8
     ensures done { result ≡ 0 → WritesAll (Reports (words_of words.now.items) (F.told files.old)) (K.written out.old) (K.written out.new) }
 
-    // The table has a row for each status but 4.
-    ensures answer { result ≢ 4 → WritesAll (Row (words_of words.now.items) (F.told files.old) (F.faults files.old) (F.faults files.new) result) (K.written out.old) (K.written out.new) }
-    ensures sink { result ≡ 4 → Rose (K.faults out.old) (K.faults out.new) }
-    ensures front { result ≡ 4 → (status : ℕ) × WritesFront (Row (words_of words.now.items) (F.told files.old) (F.faults files.old) (F.faults files.new) status) (K.written out.old) (K.written out.new) }
+    // The only cause of each status, no fault that is overcome, and no other answer than 0 and 9
+    // where all is well.
+    ensures outcome { let before : Counts = record { store = F.faults files.old; sink = K.faults out.old } in
+        let after : Counts = record { store = F.faults files.new; sink = K.faults out.new } in
+        Outcome (words_of words.now.items) (F.told files.old) before after (K.written out.old) (K.written out.new) result }
 
-    // No fault of a device is overcome: a count that rose shows in the status.
-    ensures no_file_fault_is_overcome { result ≢ 3 → result ≢ 4 → F.faults files.new ≡ F.faults files.old }
-    ensures no_sink_fault_is_overcome { result ≢ 4 → K.faults out.new ≡ K.faults out.old }
-
-    // Where the words are no command's, and where a file passes a limit, nothing else comes.
+    // Nothing else comes where the words are no command's, where a file passes a limit, and where a
+    // line of a script or of a show file is refused.
     ensures usage { ¬ IsCommand (words_of words.now.items) → (result ≡ 1) ⊎ (result ≡ 4) }
     ensures limit { (text : List ℕ) → Names (AsksFor (words_of words.now.items)) (F.told files.old) text → IsTooLong text → (result ≡ 11) ⊎ (result ≡ 3) ⊎ (result ≡ 4) ⊎ (result ≡ 9) }
-
-    // A script that is played to its end gets its report, where neither device fails.
-    ensures complete { (text : List ℕ) → Names (IsPlay (words_of words.now.items)) (F.told files.old) text → IsPlayable text → ¬ Rose (F.faults files.old) (F.faults files.new) → ¬ Rose (K.faults out.old) (K.faults out.new) → (result ≡ 0) ⊎ (result ≡ 9) }
-    // So does a show file whose lines keep the grammar get its answers.
-    ensures complete_show { (text : List ℕ) → Names (IsShow (words_of words.now.items)) (F.told files.old) text → IsShowable text → ¬ Rose (F.faults files.old) (F.faults files.new) → ¬ Rose (K.faults out.old) (K.faults out.new) → (result ≡ 0) ⊎ (result ≡ 9) }
+    ensures refused { (text : List ℕ) → Names (IsPlay (words_of words.now.items)) (F.told files.old) text → IsRefusable text → (result ≡ 2) ⊎ (result ≡ 3) ⊎ (result ≡ 4) ⊎ (result ≡ 9) }
+    ensures refused_show { (text : List ℕ) → Names (IsShow (words_of words.now.items)) (F.told files.old) text → IsUnshowable text → (result ≡ 2) ⊎ (result ≡ 3) ⊎ (result ≡ 4) ⊎ (result ≡ 9) }
 
     ensures names { AskedFor (words_of words.now.items) (F.named files.old) (F.named files.new) }
     ensures same { F.told files.new ≡ F.told files.old }

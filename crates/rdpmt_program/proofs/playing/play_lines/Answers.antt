@@ -6,8 +6,8 @@ pub returns-in-Err : goal.returns-in-Err
 returns-in-Err c =
     let within : c.loop-line.line-index < length c.args.lines.now = omega arith in
     let h = c.loop-line.invariant in
-    refused c.step.new.self h.0 c.line-item.result (drop c.loop-line.line-index c.args.lines.now) (drop (c.loop-line.line-index + 1) c.args.lines.now) c.args.lines.now c.in-Err.cause c.at.result
-    (first c.args.lines.now c.loop-line.line-index c.line-item.result within c.line-item.is) h.2 c.at.ensures.memory c.at.ensures.refused (c.in-Err.ensures h.0 h.1)
+    refused c.step.new.self h.0 c.line-item.result (drop c.loop-line.line-index c.args.lines.now) (drop (c.loop-line.line-index + 1) c.args.lines.now) c.args.lines.now c.in-Err.refusal c.at.result
+    (first c.args.lines.now c.loop-line.line-index c.line-item.result within c.line-item.is) h.2 c.at.ensures (c.in-Err.ensures h.0 h.1)
 
 pub loop-line-preserved : goal.loop-line-preserved
 loop-line-preserved c =

@@ -19,7 +19,7 @@ returns-in-Err-RefusedAt c =
     let stopped = rw c.in-Err-RefusedAt.field-0-is at c.in-Err-RefusedAt.ensures in
     let lines = c.lines.ensures in
     gives_refusal c.args.text.now _ c.refused-in-Err-RefusedAt.result c.refused-in-Err-RefusedAt.ensures
-    (step _ stopped.0 c.in-Err-RefusedAt.line c.in-Err-RefusedAt.cause c.in-Ok.ensures (sym (ap (play start) lines) ∙ stopped.1) (ap (refused_line c.in-Err-RefusedAt.line) c.reason.ensures))
+    (step _ stopped.0 c.in-Err-RefusedAt.line c.in-Err-RefusedAt.cause c.in-Ok.ensures (sym (ap (play start) lines) ∙ stopped.1) (ap (refused_line c.in-Err-RefusedAt.line) c.name.ensures))
 
 pub returns-in-Ok-report : goal.returns-in-Ok-report
 returns-in-Ok-report c =
