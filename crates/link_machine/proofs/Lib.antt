@@ -1,0 +1,10 @@
+pub mod Sendings
+pub mod Receiving
+pub mod Steps
+pub mod Polled
+pub mod Carrying
+pub mod Rests
+pub mod Polls
+pub mod Written
+pub mod Inputs
+pub mod Dues
