@@ -79,6 +79,7 @@ impl<L: WireLayout> Machine<L> {
         ensures queued { queued_of self.new.sender.outbox ≤ queued_of self.old.sender.outbox }
         ensures expiries { self.new.sender.timer.expiries ≡ self.old.sender.timer.expiries }
     {
+        L::is_wire();
         let numbers = self.sender.next_numbers();
         let head = self.receiver.head(None, Some(numbers), out);
         let length = head + self.cut_into(&mut out[head..]);
@@ -143,6 +144,7 @@ impl<L: WireLayout> Machine<L> {
         ensures queued { queued_of self.new.sender.outbox ≡ queued_of self.old.sender.outbox }
         ensures expiries { self.new.sender.timer.expiries ≡ self.old.sender.timer.expiries }
     {
+        L::is_wire();
         let numbers = Numbers {
             part,
             transmission: self.sender.next_numbers().transmission,
@@ -205,6 +207,7 @@ impl<L: WireLayout> Machine<L> {
         if !self.receiver.ack_is_due(self.moment) {
             return None;
         }
+        L::is_wire();
         let length = self.receiver.head(None, None, out);
         Some(L::finish(out, length))
     }
@@ -365,6 +368,7 @@ impl<L: WireLayout> Carrier for Machine<L> {
             (condition_of self.new ≡ IsClosed e) × (result ≡ None) }
         ensures layout { layout_at L.wire self.new ≡ layout_at L.wire self.old }
     {
+        L::is_wire();
         self.moment = self.moment.max(now);
         match self.sender.choose(self.moment) {
             Choice::Silent => None,

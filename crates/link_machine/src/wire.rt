@@ -83,9 +83,12 @@ pub trait WireLayout {
         ensures text { take result out.new ≡ wire.finished (take length out.old) }
         ensures rest { drop result out.new ≡ drop result out.old };
 
-    ghost tells_parts_is: { TELLS_PARTS ≡ wire.tells_parts };
+    /// It is the layout of a link: a text is read back, tells only what was received, and leaves room
+    /// for a part.
+    fn is_wire()
+        ensures { IsWire wire };
 
-    ghost is_wire: { IsWire wire };
+    ghost tells_parts_is: { TELLS_PARTS ≡ wire.tells_parts };
 
     ghost modulus_is: { wire.modulus ≡ Self.Width.MODULUS };
 }

@@ -26,7 +26,7 @@ returns-clause-bytes g c p acts told timer got n floor owed part_is speaks hears
     let cut = c.resend_into.ensures.bytes acts told timer says in
     let numbers : Numbers = record { part = c.args.part; transmission = c.next_numbers.result.transmission } in
     let place = ap (piece limits acts) (part_back c.args.part _ p here) in
-    sealed_part wire g.met.L.WireLayout.is_wire (wire.told m.receiver.config.peer got floor) (tells_beside (Some numbers) owed) above (Some c.floor.result)
+    sealed_part wire c.is_wire.ensures (wire.told m.receiver.config.peer got floor) (tells_beside (Some numbers) owed) above (Some c.floor.result)
     (again_load m.sender.config.own p acts) numbers _ c.head-head.new.out _ _ c.finish.new.out c.head-head.result c.resend_into.result c.finish.result
     (ap₂ both_numbers here (ap (λ n. n.transmission) (c.next_numbers.ensures acts told timer says)))
     (ap Some (c.floor.ensures m.receiver.config.delay m.receiver.config.peer acts told timer says)) (c.head-head.ensures.text got n floor owed now)

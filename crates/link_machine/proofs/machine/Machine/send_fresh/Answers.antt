@@ -18,7 +18,7 @@ returns-clause-bytes g c acts told timer got n floor owed speaks hears =
     let says = subst (λ m. Speaks m.sender acts told timer) (sym c.self.view_is) speaks in
     let cut = c.cut_into.ensures.bytes acts told timer says in
     let numbers = c.next_numbers-numbers.result in
-    sealed_part wire g.met.L.WireLayout.is_wire (wire.told m.receiver.config.peer got floor) (tells_beside (Some numbers) owed) None None
+    sealed_part wire c.is_wire.ensures (wire.told m.receiver.config.peer got floor) (tells_beside (Some numbers) owed) None None
     (fresh_load m.sender.config.own acts) numbers _ c.head-head.new.out _ _ c.finish.new.out c.head-head.result c.cut_into.result c.finish.result
     (c.next_numbers-numbers.ensures acts told timer says) refl (c.head-head.ensures.text got n floor owed now) cut.0 cut.1 c.finish.ensures.text
     ∙ ap (λ (m : Machine). wire.spell (datagram_with (layout_at wire m) got floor owed None (Some (fresh_load m.sender.config.own acts)))) c.self.view_is

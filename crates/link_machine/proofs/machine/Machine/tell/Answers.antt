@@ -12,7 +12,7 @@ returns-clause-bytes g c got n floor owed hears =
     let wire = g.L.WireLayout.wire in
     let now = subst (λ m. Hears m.receiver got n floor owed) (sym c.self.view_is) hears in
     let written = c.head-length.ensures.text got n floor owed now in
-    let text = sealed_bare wire g.met.L.WireLayout.is_wire (wire.told m.receiver.config.peer got floor) None _ c.head-length.new.out c.finish.new.out c.head-length.result c.finish.result written c.finish.ensures.text in
+    let text = sealed_bare wire c.is_wire.ensures (wire.told m.receiver.config.peer got floor) None _ c.head-length.new.out c.finish.new.out c.head-length.result c.finish.result written c.finish.ensures.text in
     subst (λ m. Some (take c.finish.result c.finish.new.out) ≡ (if is_pressing (layout_at wire m) owed m.moment
     then Some (wire.spell (datagram_with (layout_at wire m) got floor owed None None)) else None)) c.self.view_is
     (told_where _ c.finish.result c.finish.new.out _ (sym (c.ack_is_due.ensures m.sender.config.wait

@@ -22,7 +22,7 @@ returns-in-Silent-clause-trace g c t h =
     let chosen = subst (Chose g.L.WireLayout.wire n t) c.in-Silent.is
     (chose g.L.WireLayout.wire m n t _ same (p.choice i.receiver.config.delay i.receiver.config.peer) (p.stands i.receiver.config.delay
     i.receiver.config.peer) now) in
-    silent g.L.WireLayout.wire g.met.L.WireLayout.is_wire n.sender.config.wait i.receiver.config.delay n.sender.config.own i.receiver.config.peer some_own some_peer m n t c.args.now
+    silent g.L.WireLayout.wire c.is_wire.ensures n.sender.config.wait i.receiver.config.delay n.sender.config.own i.receiver.config.peer some_own some_peer m n t c.args.now
     c.max-self-inside.ensures now chosen.means chosen.speaks now.hears
 
 pub returns-in-Again-clause-trace : goal.returns-in-Again-clause-trace
@@ -45,7 +45,7 @@ returns-in-Again-clause-trace g c t h =
     i.receiver.config.peer) now) in
     let q = c.send_again.ensures in
     let place = chosen.means.1 in
-    stands_again g.L.WireLayout.wire g.met.L.WireLayout.is_wire m n c.send_again.new.self some_own some_peer t c.args.now c.max-self-inside.ensures q.moment
+    stands_again g.L.WireLayout.wire c.is_wire.ensures m n c.send_again.new.self some_own some_peer t c.args.now c.max-self-inside.ensures q.moment
     q.layout now
     c.in-Again.part _ chosen (q.carried _ _ _ _ place chosen.speaks)
     (p.unsettled c.in-Again.part c.in-Again.is) (q.near _ _ _ _ place chosen.speaks)
@@ -71,7 +71,7 @@ returns-in-Fresh-clause-trace g c t h =
     (chose g.L.WireLayout.wire m n t _ same (p.choice i.receiver.config.delay i.receiver.config.peer) (p.stands i.receiver.config.delay
     i.receiver.config.peer) now) in
     let q = c.send_fresh.ensures in
-    stands_fresh g.L.WireLayout.wire g.met.L.WireLayout.is_wire m n c.send_fresh.new.self some_own some_peer t c.args.now c.max-self-inside.ensures q.moment
+    stands_fresh g.L.WireLayout.wire c.is_wire.ensures m n c.send_fresh.new.self some_own some_peer t c.args.now c.max-self-inside.ensures q.moment
     q.layout now
     _ chosen (q.carried _ _ _ chosen.speaks) (q.bytes _ _ _ _ _ _ _ chosen.speaks now.hears)
     (q.sends _ _ _ chosen.speaks) (q.hears _ _ _ _ now.hears)
@@ -95,5 +95,5 @@ returns-in-Telling-clause-trace g c t h =
     (chose g.L.WireLayout.wire m n t _ same (p.choice i.receiver.config.delay i.receiver.config.peer) (p.stands i.receiver.config.delay
     i.receiver.config.peer) now) in
     let q = c.tell.ensures in
-    stands_telling g.L.WireLayout.wire g.met.L.WireLayout.is_wire m n c.tell.new.self some_own some_peer t c.args.now c.max-self-inside.ensures q.moment q.layout now
+    stands_telling g.L.WireLayout.wire c.is_wire.ensures m n c.tell.new.self some_own some_peer t c.args.now c.max-self-inside.ensures q.moment q.layout now
     _ chosen (q.bytes _ _ _ _ now.hears) q.sender (q.hears _ _ _ _ now.hears)
