@@ -1,6 +1,6 @@
 //! The machine.
 
-ghost use Rattle.std.specs.Prelude.{◌≡◌, ◌+◌, ◌-◌, ◌<◌, ◌≤◌, ◌^◌, ◌++◌, ◌∷◌, [], ℕ, List, Some, None, true, if◌then◌else◌, length, take, IfOk, IfSome, option_map, All};
+ghost use Rattle.std.specs.Prelude.{◌≡◌, ◌+◌, ◌-◌, ◌<◌, ◌≤◌, ◌^◌, ◌++◌, ◌∷◌, [], ℕ, List, Some, None, true, if◌then◌else◌, length, take, drop, IfOk, IfSome, option_map, All};
 ghost use Rattle.mt_base.specs.Trace.{Trace, Start, ◌▷◌};
 ghost use Rattle.mt_windows.specs.ArrivedView.{left_of};
 ghost use Rattle.mt_windows.specs.Sending.Act.{Cut, Resent};
@@ -10,6 +10,7 @@ ghost use Rattle.carrier.specs.Entries.{Entry, Owed};
 ghost use Rattle.carrier.specs.Layout.{Received};
 ghost use Rattle.carrier.specs.Receiving.{receives, owes, floor_shown};
 ghost use Rattle.carrier.specs.Sending.{Timer, hears, timer_told};
+ghost use Rattle.carrier.specs.States.{written};
 ghost use Rattle.carrier.specs.Due.{is_pressing, IsNextDue};
 ghost use Rattle.carrier.specs.Law.{answer_load, Faithful};
 ghost use Rattle.carrier.specs.LayoutLaw.{IsCarried};
@@ -119,6 +120,7 @@ impl Udp2Core {
     fn send_fresh(&mut self, out: &mut [u8; 1232]) -> usize
         requires { may_cut_of self.old.sender.outbox self.old.sender.told ≡ true }
         ensures bound { result ≤ 1132 }
+        ensures rest { drop result out.new ≡ drop result out.old }
         ensures bytes { (acts : Trace Act) (told : ℕ) (timer : Timer) (got : Received) (n floor : ℕ) (owed : List ℕ) →
             Speaks self.old.sender acts told timer → Hears self.old.receiver got n floor owed →
             take result out.new ≡ second_layout.spell (datagram_with got floor owed None (Some (fresh_load acts))) }
@@ -168,6 +170,7 @@ impl Udp2Core {
         requires reach { reach_of self.old.sender.outbox < 4096 }
         requires number { next_transmission self.old.sender.outbox < 2 ^ 62 }
         ensures bound { result ≤ 1132 }
+        ensures rest { drop result out.new ≡ drop result out.old }
         ensures bytes { (p : ℕ) (acts : Trace Act) (told : ℕ) (timer : Timer) (got : Received) (n floor : ℕ) (owed : List ℕ) →
             part ≡ 1 + p → Speaks self.old.sender acts told timer → Hears self.old.receiver got n floor owed →
             take result out.new ≡ second_layout.spell (datagram_with got floor owed (Some (1 + floor_transmission limits acts)) (Some (again_load p acts))) }
@@ -225,6 +228,7 @@ impl Udp2Core {
     /// Writes a datagram that only tells what was received, where that has to be told.
     fn tell(&mut self, out: &mut [u8; 1232]) -> Option<usize>
         ensures bound { IfSome result (λ n. n ≤ 1132) }
+        ensures rest { drop (written result) out.new ≡ drop (written result) out.old }
         ensures bytes { (got : Received) (n floor : ℕ) (owed : List ℕ) → Hears self.old.receiver got n floor owed →
             option_map (λ n. take n out.new) result ≡ (if is_pressing second_layout owed self.old.moment
             then Some (second_layout.spell (datagram_with got floor owed None None)) else None) }

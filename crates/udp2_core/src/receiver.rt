@@ -382,6 +382,7 @@ impl Receiver {
     ) -> usize
         requires carried { IfSome (option_map carried_of load) (IsCarried second_layout) }
         ensures bound { result ≤ 1132 }
+        ensures rest { drop result out.new ≡ drop result out.old }
         ensures bytes { (got : Received) (n old : ℕ) (owed : List ℕ) → Hears self.old got n old owed →
             let text = second_layout.spell (datagram_with got old owed floor (option_map carried_of load.entry)) in
             (result ≡ length text) × (out.new ≡ text ++ drop result out.old) }
