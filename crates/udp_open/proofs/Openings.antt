@@ -1,8 +1,8 @@
 -- What a datagram shows, and what a poll sends.
-use Rattle.std.proofs.Common.{◌≡◌, ℕ, ◌+◌, ◌≤◌, Bool, true, false, ◌&&◌, nat_lt, List, length, take, if◌then◌else◌, Option, Some, None, Result, Ok, Err, refl, sym, ap, ◌∙◌, arith}
+use Rattle.std.proofs.Common.{◌≡◌, ℕ, ◌+◌, ◌≤◌, Bool, true, false, ◌&&◌, nat_lt, List, length, take, drop, if◌then◌else◌, Option, Some, None, Result, Ok, Err, refl, sym, ap, ◌∙◌, arith}
 use Rattle.std.specs.Option.{option_map}
 use Rattle.std.proofs.lemmas.Bool.{le-ltb, lt-ltb, ltb-false}
-use Rattle.std.proofs.lemmas.List.{take_all}
+use Rattle.std.proofs.lemmas.List.{take_all, drop_all}
 use Rattle.carrier.specs.declared.first_layout.Refusal1.{Refusal1}
 use Rattle.carrier.specs.declared.state.Reason.TheVariants as reason
 use Rattle.udp1_packets.specs.Faults.{Refused}
@@ -39,6 +39,10 @@ pub fills : (due : Bool) (out text : List ℕ) → due ≡ true → length out �
     → Some (take 1232 out) ≡ (if due then Some text else None)
 fills due out text is long same =
     ap Some (take_all 1232 out (omega arith) ∙ same) ∙ sym (ap (λ b. if b then Some text else None) is)
+
+-- nothing stands behind it
+pub none_behind : (out old : List ℕ) → length out ≡ 1232 → length old ≡ 1232 → drop 1232 out ≡ drop 1232 old
+none_behind out old long same = drop_all 1232 out (omega arith) ∙ sym (drop_all 1232 old (omega arith))
 
 -- before the last expiry a SYN is due where it is time for it
 before_last : (timer : Option Timer) (at : ℕ) → nat_lt 16 (started timer at).expiries ≡ false

@@ -1,7 +1,7 @@
 //! A link that opens, and then goes on as a machine.
 
-ghost use Rattle.std.specs.Prelude.{◌≡◌, ◌+◌, ◌<◌, ◌≤◌, ◌^◌, ◌++◌, ◌%◌, ◌==◌, [], ℕ, List, Option, Some, None, true, false, max, length, get_or, option_map, take, IfOk, IfSome, IsSome, OnOk, OnErr, nat_lt, nat_le, nat_eq, bit_and, is_some};
-ghost use Rattle.carrier.specs.States.{give_answer};
+ghost use Rattle.std.specs.Prelude.{◌≡◌, ◌+◌, ◌<◌, ◌≤◌, ◌^◌, ◌++◌, ◌%◌, ◌==◌, [], ℕ, List, Option, Some, None, true, false, max, length, get_or, option_map, take, drop, IfOk, IfSome, IsSome, OnOk, OnErr, nat_lt, nat_le, nat_eq, bit_and, is_some};
+ghost use Rattle.carrier.specs.States.{give_answer, written};
 ghost use Rattle.mt_base.specs.declared.kinds.Role.TheVariants.{Client as IsClient};
 ghost use Rattle.mt_base.specs.Trace.{Trace, Start, ◌▷◌};
 ghost use Rattle.mt_windows.specs.ArrivedView.{left_of};
@@ -164,6 +164,7 @@ impl UdpLink {
         requires moment { now < 2 ^ 62 }
         requires opens { IsSome self.old.opening.agreement }
         ensures bound { IfSome result (λ n. n ≤ 1232) }
+        ensures rest { drop (written result) out.new ≡ drop (written result) out.old }
         ensures trace { (t : Trace Entry) → StandsLink self.old t →
             StandsLink self.new (t ▷ Polled now (option_map (λ n. take n out.new) result)) }
         ensures settings { self.new.opening.settings ≡ self.old.opening.settings }

@@ -1,6 +1,6 @@
 //! The opening of a link.
 
-ghost use Rattle.std.specs.Prelude.{ℕ, max, ◌≡◌, ◌-◌, ◌<◌, ◌^◌, List, true, not, nat_lt, Option, if◌then◌else◌, Some, None, Ok, take, option_map, IfSome};
+ghost use Rattle.std.specs.Prelude.{ℕ, max, ◌≡◌, ◌-◌, ◌<◌, ◌^◌, List, true, not, nat_lt, Option, if◌then◌else◌, Some, None, Ok, take, drop, option_map, IfSome};
 ghost use Rattle.mt_base.specs.declared.kinds.Role.TheVariants.{Client as IsClient};
 ghost use Rattle.mt_base.specs.Trace.{Trace, Start, ◌▷◌};
 ghost use Rattle.carrier.specs.declared.state.Took.{Took};
@@ -8,6 +8,7 @@ ghost use Rattle.carrier.specs.declared.state.Took.TheVariants.{Ignored};
 ghost use Rattle.carrier.specs.declared.state.Reason.TheVariants.{LinkClosed};
 ghost use Rattle.carrier.specs.Entries.{Entry, In, Polled};
 ghost use Rattle.carrier.specs.Receiving.{has_effect};
+ghost use Rattle.carrier.specs.States.{written};
 ghost use Rattle.udp1_packets.specs.Layout.{spelled};
 ghost use Rattle.udp_open.specs.declared.agreement.Agreement.{Agreement};
 ghost use Rattle.udp_open.specs.declared.opening.OpenEnd.TheVariants.{Agreed as IsAgreed};
@@ -110,6 +111,7 @@ impl Opening {
     pub fn poll(&mut self, now: u64, out: &mut [u8; 1232]) -> Option<usize>
         requires moment { now < 2 ^ 62 }
         ensures whole { IfSome result (λ n. n ≡ 1232) }
+        ensures rest { drop (written result) out.new ≡ drop (written result) out.old }
         ensures trace { (t : Trace Entry) → StandsOpen self.old t →
             StandsOpen self.new (t ▷ Polled now (option_map (λ n. take n out.new) result)) }
         ensures due { (t : Trace Entry) → Follows self.old t →
@@ -186,6 +188,7 @@ impl Opening {
     fn ask(&mut self, out: &mut [u8; 1232]) -> Option<usize>
         requires { self.old.settings.role ≡ IsClient }
         ensures whole { IfSome result (λ n. n ≡ 1232) }
+        ensures rest { drop (written result) out.new ≡ drop (written result) out.old }
         ensures bytes { option_map (λ n. take n out.new) result ≡
             option_map spelled (asked self.old.settings self.old.timer self.old.moment) }
         ensures value { self.new ≡ after_asking self.old }
@@ -231,6 +234,7 @@ impl Opening {
     fn answer(&mut self, agreement: Agreement, out: &mut [u8; 1232]) -> Option<usize>
         requires { IsOffered agreement.version }
         ensures whole { IfSome result (λ n. n ≡ 1232) }
+        ensures rest { drop (written result) out.new ≡ drop (written result) out.old }
         ensures bytes { option_map (λ n. take n out.new) result ≡
             (if nat_lt 0 self.old.owed then Some (spelled (syn_ack self.old.settings agreement))
             else None) }

@@ -287,13 +287,9 @@ fn pulls(link: &mut UdpLink, bytes: &[u8]) -> bool {
 }
 
 #[test]
-fn bytes_given_early_go_over_a_bad_network(rt: HostRuntime) {
-    let Ok(mut client) = link(rt.alloc(), Role::Client, 1) else {
-        return;
-    };
-    let Ok(mut server) = link(rt.alloc(), Role::Server, 9) else {
-        return;
-    };
+fn bytes_given_early_go_over_a_bad_network(rt: HostRuntime) -> Result<(), Fail> {
+    let mut client = link(rt.alloc(), Role::Client, 1)?;
+    let mut server = link(rt.alloc(), Role::Server, 9)?;
     assert!(rt; client.give(&[0x41, 0x42]).is_ok());
     assert!(rt; server.give(&[0x43]).is_ok());
     assert_eq!(rt; client.state(), LinkState::Opening);
@@ -341,13 +337,12 @@ fn bytes_given_early_go_over_a_bad_network(rt: HostRuntime) {
     assert!(rt; carries(&mut client, &mut server, 861));
     assert_eq!(rt; client.queued(), 0);
     assert_eq!(rt; server.queued(), 0);
+    Ok(())
 }
 
 #[test]
-fn strangers_do_not_disturb_a_link(rt: HostRuntime) {
-    let Ok(mut server) = link(rt.alloc(), Role::Server, 9) else {
-        return;
-    };
+fn strangers_do_not_disturb_a_link(rt: HostRuntime) -> Result<(), Fail> {
+    let mut server = link(rt.alloc(), Role::Server, 9)?;
     let mut lossy = filled(&SYN);
     lossy[6] = 0x12;
     assert_eq!(rt; server.input(0, &lossy), Took::Ignored(Reason::WrongKind));
@@ -361,9 +356,7 @@ fn strangers_do_not_disturb_a_link(rt: HostRuntime) {
     assert_eq!(rt; server.state(), LinkState::Opening);
     let (_, length) = sent(&mut server, 0);
     assert_eq!(rt; length, 0);
-    let Ok(mut client) = link(rt.alloc(), Role::Client, 1) else {
-        return;
-    };
+    let mut client = link(rt.alloc(), Role::Client, 1)?;
     assert!(rt; carries(&mut client, &mut server, 0));
     let mut other = filled(&SYN);
     other[11] = 2;
@@ -379,13 +372,12 @@ fn strangers_do_not_disturb_a_link(rt: HostRuntime) {
     assert!(rt; client.give(&[0x41]).is_ok());
     assert!(rt; carries(&mut client, &mut server, 0));
     assert!(rt; pulls(&mut server, &[0x41]));
+    Ok(())
 }
 
 #[test]
-fn a_link_whose_syn_is_never_answered_closes(rt: HostRuntime) {
-    let Ok(mut client) = link(rt.alloc(), Role::Client, 1) else {
-        return;
-    };
+fn a_link_whose_syn_is_never_answered_closes(rt: HostRuntime) -> Result<(), Fail> {
+    let mut client = link(rt.alloc(), Role::Client, 1)?;
     assert!(rt; client.give(&[0x41]).is_ok());
     for _ in 0..17 {
         let due = client.next_due().unwrap_or(0).min(1_000_000);
@@ -408,13 +400,12 @@ fn a_link_whose_syn_is_never_answered_closes(rt: HostRuntime) {
     assert_eq!(rt; client.next_due(), None);
     let (_, length) = sent(&mut client, 1_000_000);
     assert_eq!(rt; length, 0);
+    Ok(())
 }
 
 #[test]
-fn an_open_link_that_hears_nothing_closes(rt: HostRuntime) {
-    let Ok(mut client) = link(rt.alloc(), Role::Client, 1) else {
-        return;
-    };
+fn an_open_link_that_hears_nothing_closes(rt: HostRuntime) -> Result<(), Fail> {
+    let mut client = link(rt.alloc(), Role::Client, 1)?;
     let (_, length) = sent(&mut client, 0);
     assert_eq!(rt; length, 1232);
     assert_eq!(rt; client.input(0, &filled(&SYN_ACK)), Took::Used);
@@ -434,21 +425,18 @@ fn an_open_link_that_hears_nothing_closes(rt: HostRuntime) {
         client.give(&[0x41]),
         Err(GiveRefusal::Closed { expiries: 17 })
     );
+    Ok(())
 }
 
 #[test]
-fn numbers_wrap_among_the_first_parts(rt: HostRuntime) {
+fn numbers_wrap_among_the_first_parts(rt: HostRuntime) -> Result<(), Fail> {
     let mut text = [0; 2500];
     for (place, byte) in (0..=255).cycle().zip(text.iter_mut()) {
         *byte = place;
     }
     for initial in [0, 1, 4_294_967_294, 4_294_967_295] {
-        let Ok(mut client) = link(rt.alloc(), Role::Client, initial) else {
-            return;
-        };
-        let Ok(mut server) = link(rt.alloc(), Role::Server, 4_294_967_295 - initial) else {
-            return;
-        };
+        let mut client = link(rt.alloc(), Role::Client, initial)?;
+        let mut server = link(rt.alloc(), Role::Server, 4_294_967_295 - initial)?;
         assert!(rt; client.give(&text).is_ok());
         assert!(rt; server.give(&text).is_ok());
         assert!(rt; carries(&mut client, &mut server, 0));
@@ -463,4 +451,5 @@ fn numbers_wrap_among_the_first_parts(rt: HostRuntime) {
         assert_eq!(rt; client.pull(&mut got), 2500);
         assert!(rt; got == text);
     }
+    Ok(())
 }
