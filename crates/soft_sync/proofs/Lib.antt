@@ -4,3 +4,4 @@ pub mod Growing
 pub mod Finding
 pub mod Asking
 pub mod InOrder
+pub mod Given

@@ -179,6 +179,7 @@ impl Paths {
     pub fn answer_begin(&mut self) -> Option<u32>
         ensures oldest { result ≡ behind self.old.made }
         ensures given { IfSome result (λ number. self.new ≡ record self.old { made = with_answer number giving self.old.made }) }
+        ensures answered { IfSome result (λ number. is_given number self.new.made ≡ true) }
         ensures none { IfNone result (self.new ≡ self.old) }
     {
         let number = self.made.behind()?;
