@@ -10,9 +10,11 @@ use Rattle.link_machine.specs.declared.told.Told.TheVariants as code
 
 -- whether parts are told, or else transmissions; how many low parts a number has; what a datagram
 -- shows; what is told of what was received of a first number on, above a floor; how a datagram is
--- spelled; and what the bytes of a telling say
+-- spelled; what the bytes of a telling say; and how far below the last number received the number
+-- lies, at most, that a telling names
 pub record Wire : Type 0 where
   pub tells_parts : Bool
+  pub tell : ℕ
   pub modulus : ℕ
   pub read : List ℕ → Reading
   pub told : ℕ → Received → ℕ → Telling
@@ -22,19 +24,20 @@ pub record Wire : Type 0 where
   pub head : Telling → Bool → Option ℕ → Option Numbers → List ℕ
   pub finished : List ℕ → List ℕ
 
-abbrev pub bounds : Bounds
-bounds = record {
+abbrev pub bounds : ℕ → Bounds
+bounds tell = record {
   windows = limits;
   datagram = DATAGRAM;
   with_telling = WITH_TELLING;
   expiries = EXPIRIES;
+  tell = tell;
 }
 
 -- the layout at an end with this shortest wait of the timer, this delay of a telling, and these first
 -- numbers
 abbrev pub layout_of : Wire → ℕ → ℕ → ℕ → ℕ → Layout
 layout_of wire wait delay own peer = record {
-  bounds = bounds;
+  bounds = bounds wire.tell;
   own = own;
   peer = peer;
   modulus = wire.modulus;

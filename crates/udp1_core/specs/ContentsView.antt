@@ -1,35 +1,28 @@
--- What a packet of an open link shows, in the words of links.
-use Rattle.std.specs.Prelude.{◌≡◌, ℕ, ◌≤◌, length, All, Option, Some, None, option_copied}
+-- What the code's values show and tell.
+use Rattle.std.specs.Prelude.{◌<◌, ◌≤◌, ◌^◌, length, All, List, [], ℕ, Option, Some, None}
 use Rattle.ack_vector.specs.Elements.{IsGood}
-use Rattle.udp1_packets.specs.Value.{Body, Packet, SynBody, DataBody, FecBody, BareBody}
-use Rattle.carrier.specs.Layout.{Shown}
-use Rattle.udp1_core.specs.declared.contents.Contents.{Contents}
-use Rattle.udp1_core.specs.FirstLayout.{telling_in, shown_by}
-use Rattle.carrier.specs.Layout.Reading.{Refuses, Shows as ReadsAs}
-use Rattle.carrier.specs.declared.state.Reason.TheVariants.{NotOurs}
-use Rattle.udp1_core.specs.ReceiverView.{load_of, Fits}
-use Rattle.std.specs.Option.{IfSome}
+use Rattle.mt_windows.specs.declared.limits.TheConstants.{DATAGRAM}
+use Rattle.link_machine.specs.declared.numbers.Numbers.{Numbers}
+use Rattle.link_machine.specs.declared.told.Told.{Told}
+use Rattle.link_machine.specs.declared.told.Told.TheVariants as code
+use Rattle.udp1_packets.specs.Value.{Body, SynBody, DataBody, FecBody, BareBody}
+use Rattle.udp1_core.specs.FirstLayout.{low}
 
--- the code's value shows this, with this transmission, which is not looked at
-pub record Shows (coded : ℕ) (c : Contents) (s : Shown) : Type 0 where
-  pub window_is : s.window ≡ Some c.window
-  pub telling_is : s.telling ≡ telling_in c.named (option_copied c.vector)
-  pub floor_is : s.floor ≡ c.floor
-  pub load_is : s.load ≡ load_of coded c.load
-
--- its vector is good, and its part no longer than a datagram
-pub record IsFit (c : Contents) : Type 0 where
-  pub good : IfSome (option_copied c.vector) (λ elements. All IsGood elements)
-  pub fits : Fits c.load
-
--- a packet shows this, or is refused as an opening
-abbrev pub PacketShows : Packet → Option Contents → Type 0
-PacketShows p None = shown_by p.ack p.window p.body ≡ Refuses NotOurs
-PacketShows p (Some c) = (coded : ℕ) × (s : Shown) × (shown_by p.ack p.window p.body ≡ ReadsAs s) × Shows coded c s
+-- it tells nothing, or by elements up to a number that is shown in 32 bits
+abbrev pub CanTell : Told → Type 0
+CanTell code.Nothing = Unit {0}
+CanTell (code.Last named count) = ⊥
+CanTell (code.Upto named bytes) = (named < 2 ^ 32) × All IsGood bytes.now
+CanTell (code.From named bytes) = ⊥
 
 -- the part that such a body carries is no longer than a datagram
 abbrev pub BodyFits : Body → Type 0
 BodyFits (SynBody syn) = Unit {0}
-BodyFits (DataBody vector aoa coded start bytes) = length bytes ≤ 1232
+BodyFits (DataBody vector aoa coded start bytes) = length bytes ≤ DATAGRAM
 BodyFits (FecBody vector aoa coded start range index bytes) = Unit {0}
 BodyFits (BareBody vector aoa rest) = Unit {0}
+
+-- the body of a packet up to its data
+abbrev pub head_body : Option (List ℕ) → Option ℕ → Option Numbers → Body
+head_body vector aoa None = BareBody vector aoa []
+head_body vector aoa (Some n) = DataBody vector aoa (low n.transmission) (low n.part) []

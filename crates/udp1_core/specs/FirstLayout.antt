@@ -1,13 +1,14 @@
 -- The first layout (MS-RDPEUDP section 2.2) as the layout of a reliable link.
 use Rattle.std.specs.Prelude.{ℕ, zero, suc, ◌+◌, ◌-◌, ◌%◌, ◌^◌, Bool, true, max, List, [], ◌∷◌, if◌then◌else◌, Option, Some, None, option_map, unwrap_or, Result, Ok, Err}
 use Rattle.mt_windows.specs.Arrived.{Parts, greatest_part, has_part}
-use Rattle.mt_windows.specs.SendingView.{limits}
 use Rattle.mt_windows.specs.declared.limits.TheConstants.{WINDOW}
 use Rattle.ack_vector.specs.Elements.{flags_of}
 use Rattle.ack_vector.specs.Longest.{elements_of}
 use Rattle.carrier.specs.declared.first_layout.Refusal1.{Refusal1}
 use Rattle.carrier.specs.declared.state.Reason.TheVariants as reason
-use Rattle.carrier.specs.Layout.{Layout, Bounds, Reading, Refuses, Shows, Empty, Carries, Correction, Telling, Upto, From, Datagram, Carried, named_in}
+use Rattle.carrier.specs.Layout.{Layout, Reading, Refuses, Shows, Empty, Carries, Correction, Telling, Upto, From, Datagram, Carried, named_in}
+use Rattle.link_machine.specs.declared.numbers.Numbers.{Numbers}
+use Rattle.link_machine.specs.Wire.{Wire, layout_of}
 use Rattle.udp1_packets.specs.Value.{Body, SynBody, DataBody, FecBody, BareBody, Packet}
 use Rattle.udp1_packets.specs.Layout.{spelled}
 use Rattle.udp1_packets.specs.Reading.{packet_at}
@@ -101,22 +102,34 @@ packet_with d = record {
 
 -- ---- the layout
 
--- a telling names the last number received
-abbrev pub bounds : Bounds
-bounds = record { windows = limits; datagram = 1232; with_telling = 1132; expiries = 16; tell = 0 }
+-- a part of these numbers without its bytes
+abbrev pub without_bytes : Numbers → Carried
+without_bytes n = record { part = n.part; transmission = n.transmission; bytes = [] }
+
+-- a datagram without the bytes of its part
+abbrev pub bytes_left_out : Telling → Bool → Option ℕ → Option Numbers → Datagram
+bytes_left_out telling tells floor numbers = record {
+  telling = telling;
+  tells = tells;
+  floor = floor;
+  load = option_map without_bytes numbers;
+}
+
+-- what the machine of a link asks of the first layout: a telling names the last number received
+abbrev pub first_wire : Wire
+first_wire = record {
+  tells_parts = true;
+  tell = 0;
+  modulus = modulus;
+  read = shows;
+  told = λ peer r floor. telling_of peer floor r.parts;
+  spell = λ d. spelled (packet_with d);
+  flags = flags_of;
+  head = λ telling tells floor numbers. spelled (packet_with (bytes_left_out telling tells floor numbers));
+  finished = λ text. text;
+}
 
 -- the layout at an end whose parts are numbered from `own` on, and the other end's from `peer` on,
 -- with this shortest wait of its timer and this delay of a telling
 abbrev pub first_layout : ℕ → ℕ → ℕ → ℕ → Layout
-first_layout wait delay own peer = record {
-  bounds = bounds;
-  own = own;
-  peer = peer;
-  modulus = modulus;
-  tells_parts = true;
-  wait = wait;
-  delay = delay;
-  read = shows;
-  told = λ r floor. telling_of peer floor r.parts;
-  spell = λ d. spelled (packet_with d);
-}
+first_layout = layout_of first_wire

@@ -11,7 +11,7 @@ ghost use Rattle.carrier.specs.Joined.{Step, half};
 ghost use Rattle.carrier.specs.TwoLinks.{AllRead, CutsNear, LowestArrived, Margins, PassedWasGiven, PulledWasGiven, SettledArrive};
 ghost use Rattle.udp1_core.specs.FirstLink.{FirstLink, JoinedMachines, link_layouts};
 
-use crate::machine::Udp1Core;
+use crate::link::Udp1Core;
 use carrier::joined_links;
 
 /// The two ends of a link, of whatever version and initial numbers, tell their numbers apart as long
@@ -23,17 +23,23 @@ use carrier::joined_links;
 pub fn first_links_join()
     ensures margins { (late server client version : ℕ) → server < 2 ^ 32 → client < 2 ^ 32
         → WINDOW + late ≤ 2 ^ 31 → Margins late (link_layouts server client version) }
-    ensures read { (late server client version : ℕ) (w : Trace Step) → FirstLink late server client version w
+    ensures read { (late server client version : ℕ) (w : Trace Step) →
+        FirstLink late server client version w
         → AllRead late (link_layouts server client version) w }
-    ensures arrive { (late server client version : ℕ) (w : Trace Step) → FirstLink late server client version w
+    ensures arrive { (late server client version : ℕ) (w : Trace Step) →
+        FirstLink late server client version w
         → (s : Role) → SettledArrive (link_layouts server client version) w s }
-    ensures prefix { (late server client version : ℕ) (w : Trace Step) → FirstLink late server client version w
+    ensures prefix { (late server client version : ℕ) (w : Trace Step) →
+        FirstLink late server client version w
         → (s : Role) → PassedWasGiven (link_layouts server client version) w s }
-    ensures pulled { (late server client version : ℕ) (w : Trace Step) → FirstLink late server client version w
+    ensures pulled { (late server client version : ℕ) (w : Trace Step) →
+        FirstLink late server client version w
         → (s : Role) → PulledWasGiven (link_layouts server client version) w s }
-    ensures apart { (late server client version : ℕ) (w : Trace Step) → FirstLink late server client version w
+    ensures apart { (late server client version : ℕ) (w : Trace Step) →
+        FirstLink late server client version w
         → (s : Role) → LowestArrived (link_layouts server client version) w s }
-    ensures ahead { (late server client version : ℕ) (w : Trace Step) → FirstLink late server client version w
+    ensures ahead { (late server client version : ℕ) (w : Trace Step) →
+        FirstLink late server client version w
         → (s : Role) → CutsNear (link_layouts server client version) w s }
 {
     joined_links();
@@ -41,9 +47,11 @@ pub fn first_links_join()
 
 /// What was pulled at one of two joined machines is the beginning of what was given to the other.
 pub fn pulled_was_given(server: &Udp1Core, client: &Udp1Core)
-    ensures client { (late a b version : ℕ) (w : Trace Step) → JoinedMachines late a b version server.now client.now w
+    ensures client { (late a b version : ℕ) (w : Trace Step) →
+        JoinedMachines late a b version server.now client.now w
         → (more : List ℕ) × (given (half Server w) ≡ pulled (half Client w) ++ more) }
-    ensures server { (late a b version : ℕ) (w : Trace Step) → JoinedMachines late a b version server.now client.now w
+    ensures server { (late a b version : ℕ) (w : Trace Step) →
+        JoinedMachines late a b version server.now client.now w
         → (more : List ℕ) × (given (half Client w) ≡ pulled (half Server w) ++ more) }
 {
     first_links_join();

@@ -5,7 +5,7 @@ use mt_base::NoMemory;
 use std::test::*;
 
 #[test]
-fn laws_of_links_hold(rt: HostRuntime) -> Result<(), NoMemory> {
+fn laws_of_links_hold(rt: HostRuntime) -> Result<(), Fail> {
     first_links_keep();
     first_links_join();
     let server = Udp1Core::new(rt.alloc(), 1, 2, 0x0001)?;

@@ -1,0 +1,16 @@
+use Rattle.std.proofs.Common.{◌∙◌}
+use Rattle.udp1_packets.specs.Views.{packet_of}
+use Rattle.udp1_core.proofs.Shown.{shows_packet, shows_refusal}
+use Rattle.udp1_core.proofs.Bodies.{body_fits}
+use Rattle.udp1_core.proofs.contents.read_contents.Goals as goal
+
+pub returns-in-Ok-clause-shows : goal.returns-in-Ok-clause-shows
+returns-in-Ok-clause-shows c =
+    shows_packet c.args.datagram.now (packet_of c.in-Ok.packet) c.in-Ok.ensures.found ∙ c.contents_of.ensures.shows
+
+pub returns-in-Ok-clause-fit : goal.returns-in-Ok-clause-fit
+returns-in-Ok-clause-fit c =
+    c.contents_of.ensures.fit c.in-Ok.ensures.found.is (body_fits c.args.datagram.now (packet_of c.in-Ok.packet) c.in-Ok.ensures.found c.requires)
+
+pub returns-in-Err-clause-shows : goal.returns-in-Err-clause-shows
+returns-in-Err-clause-shows c = shows_refusal c.args.datagram.now c.in-Err.refusal c.in-Err.ensures.refused
