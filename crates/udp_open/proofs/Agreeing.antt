@@ -14,7 +14,7 @@ use Rattle.udp_open.specs.declared.agreement.Agreement.{Agreement}
 use Rattle.udp_open.specs.declared.timer.Timer.{Timer}
 use Rattle.udp_open.specs.Handshake.{shown, version_in, agreement, hears, agreed, agreed_by, owed, timer, row, is_time, names, opening_syn, syn, syn_ack, sent, opening_due, Opens}
 use Rattle.udp_open.specs.OpeningView.{IsOffered}
-use Rattle.udp_open.specs.Agreeing.{is_opening, SendsDue, WasSent, Meet, AgreesWith}
+use Rattle.udp_open.specs.Agreeing.{is_opening, SendsDue, WasSent, IsHash, Meet, AgreesWith}
 use Rattle.udp_open.proofs.Heard.{IsAt, heard_at, deaf_same, stays, at_is, deaf, hears_only}
 use Rattle.udp_open.proofs.OpeningPackets.{opening_shown}
 
@@ -69,27 +69,68 @@ abbrev at_client : (Role → OpenSettings) → Agreement
 at_client settings =
     agreement (settings Client).version (opening_syn (settings Server) true (acked (at_server settings)))
 
-abbrev named_ack : ℕ → ℕ → Option ℕ
-named_ack c s =
-    if is_some (option_map names (named c)) then Some (min (version_in (option_map names (named c))) s) else None
+-- with the hashes of both
+abbrev named_ack : List ℕ → ℕ → ℕ → Option ℕ
+named_ack oc c s =
+    if is_some (option_map (names false oc) (named c)) then Some (min (version_in (option_map (names false oc) (named c))) s) else None
 
-pub record Versions (c s : ℕ) : Type 0 where
-  pub server : min (version_in (option_map names (named c))) s ≡ min s c
-  pub client : min (version_in (option_map names (named_ack c s))) c ≡ min s c
+pub record Versions (oc os : List ℕ) (c s : ℕ) : Type 0 where
+  pub server : min (version_in (option_map (names false oc) (named c))) s ≡ min s c
+  pub client : min (version_in (option_map (names true os) (named_ack oc c s))) c ≡ min s c
   pub syn : IfSome (named c) IsOffered
-  pub ack : IfSome (named_ack c s) IsOffered
+  pub ack : IfSome (named_ack oc c s) IsOffered
 
-versions : (c s : ℕ) → IsOffered c → IsOffered s → Versions c s
-versions c s c_is s_is = elim c_is [
-  | inl ce ↦ elim s_is [
-    | inl se ↦ subst (λ v. Versions v s) (sym ce) (subst (λ v. Versions 1 v) (sym se) (record { server = refl; client = refl; syn = tt; ack = tt }))
-    | inr se ↦ subst (λ v. Versions v s) (sym ce) (subst (λ v. Versions 1 v) (sym se) (record { server = refl; client = refl; syn = tt; ack = tt }))
-  ]
-  | inr ce ↦ elim s_is [
-    | inl se ↦ subst (λ v. Versions v s) (sym ce) (subst (λ v. Versions 2 v) (sym se) (record { server = refl; client = refl; syn = inr refl; ack = inl refl }))
-    | inr se ↦ subst (λ v. Versions v s) (sym ce) (subst (λ v. Versions 2 v) (sym se) (record { server = refl; client = refl; syn = inr refl; ack = inr refl }))
+versions : (oc os : List ℕ) (c s : ℕ) → IsOffered c → IsOffered s → Versions oc os c s
+versions oc os c s c_is s_is = elim c_is [
+  | inl ce ↦ subst (λ v. Versions oc os v s) (sym ce) (of_first s_is)
+  | inr rest ↦ elim rest [
+    | inl ce ↦ subst (λ v. Versions oc os v s) (sym ce) (of_second s_is)
+    | inr ce ↦ subst (λ v. Versions oc os v s) (sym ce) (of_third s_is)
   ]
 ]
+  where
+    of_first : IsOffered s → Versions oc os 0x0001 s
+    of_first s_is = elim s_is [
+      | inl se ↦ subst (λ v. Versions oc os 0x0001 v) (sym se) (record { server = refl; client = refl; syn = tt; ack = tt })
+      | inr more ↦ elim more [
+        | inl se ↦ subst (λ v. Versions oc os 0x0001 v) (sym se) (record { server = refl; client = refl; syn = tt; ack = tt })
+        | inr se ↦ subst (λ v. Versions oc os 0x0001 v) (sym se) (record { server = refl; client = refl; syn = tt; ack = tt })
+      ]
+    ]
+
+    of_second : IsOffered s → Versions oc os 0x0002 s
+    of_second s_is = elim s_is [
+      | inl se ↦ subst (λ v. Versions oc os 0x0002 v) (sym se) (record { server = refl; client = refl; syn = inr (inl refl); ack = inl refl })
+      | inr more ↦ elim more [
+        | inl se ↦ subst (λ v. Versions oc os 0x0002 v) (sym se) (record { server = refl; client = refl; syn = inr (inl refl); ack = inr (inl refl) })
+        | inr se ↦ subst (λ v. Versions oc os 0x0002 v) (sym se) (record { server = refl; client = refl; syn = inr (inl refl); ack = inr (inl refl) })
+      ]
+    ]
+
+    of_third : IsOffered s → Versions oc os 0x0101 s
+    of_third s_is = elim s_is [
+      | inl se ↦ subst (λ v. Versions oc os 0x0101 v) (sym se) (record { server = refl; client = refl; syn = inr (inr refl); ack = inl refl })
+      | inr more ↦ elim more [
+        | inl se ↦ subst (λ v. Versions oc os 0x0101 v) (sym se) (record { server = refl; client = refl; syn = inr (inr refl); ack = inr (inl refl) })
+        | inr se ↦ subst (λ v. Versions oc os 0x0101 v) (sym se) (record { server = refl; client = refl; syn = inr (inr refl); ack = inr (inr refl) })
+      ]
+    ]
+
+-- a hash that a SYN shows is the client's
+hash_named : (H : Type 0) (c : ℕ) → (c ≡ 0x0101 → H) → IfSome (named c) (λ v. false ≡ false → v ≡ 0x0101 → H)
+hash_named H c is = by_test (c == 0x0001)
+  where
+    by_test : (b : Bool) → IfSome (if b then None else Some c) (λ v. false ≡ false → v ≡ 0x0101 → H)
+    by_test true = tt
+    by_test false = λ _ e. is e
+
+-- a SYN+ACK shows none
+none_shown : (H : Type 0) (o : Option ℕ) → IfSome o (λ v. true ≡ false → v ≡ 0x0101 → H)
+none_shown H None = tt
+none_shown H (Some v) = λ e _. absurd (no e)
+  where
+    no : true ≡ false → ⊥
+    no e = cc
 
 -- ---- step by step
 
@@ -97,6 +138,7 @@ pub record Ends (settings : Role → OpenSettings) : Type 0 where
   pub roles : (s : Role) → (settings s).role ≡ s
   pub versions : (s : Role) → IsOffered (settings s).version
   pub initials : (s : Role) → (settings s).initial < 2 ^ 32
+  pub hashes : (s : Role) → (settings s).version ≡ 0x0101 → IsHash (settings s).cookie_hash
 
 pub record Follow (settings : Role → OpenSettings) (w : Trace Step) : Type 0 where
   pub asks : IsAt (at_client settings) (agreed (settings Client) (half Client w))
@@ -151,15 +193,15 @@ syn_shown : (settings : Role → OpenSettings) (e : Ends settings)
     → shown (spelled (syn (settings Client))) ≡ Ok (syn (settings Client))
 syn_shown settings e =
     let c = settings Client in
-    let v = versions c.version (settings Server).version (e.versions Client) (e.versions Server) in
-    opening_shown c false 0xFFFFFFFF (named c.version) (e.initials Client) (omega arith) v.syn
+    let v = versions c.cookie_hash (settings Server).cookie_hash c.version (settings Server).version (e.versions Client) (e.versions Server) in
+    opening_shown c false 0xFFFFFFFF (named c.version) (e.initials Client) (omega arith) v.syn (hash_named (IsHash c.cookie_hash) c.version (e.hashes Client))
 
 ack_shown : (settings : Role → OpenSettings) (e : Ends settings)
     → shown (spelled (syn_ack (settings Server) (at_server settings))) ≡ Ok (syn_ack (settings Server) (at_server settings))
 ack_shown settings e =
     let c = settings Client in
-    let v = versions c.version (settings Server).version (e.versions Client) (e.versions Server) in
-    opening_shown (settings Server) true c.initial (named_ack c.version (settings Server).version) (e.initials Server) (e.initials Client) v.ack
+    let v = versions c.cookie_hash (settings Server).cookie_hash c.version (settings Server).version (e.versions Client) (e.versions Server) in
+    opening_shown (settings Server) true c.initial (named_ack c.cookie_hash c.version (settings Server).version) (e.initials Server) (e.initials Client) v.ack (none_shown (IsHash (settings Server).cookie_hash) (named_ack c.cookie_hash c.version (settings Server).version))
 
 client_hears : (settings : Role → OpenSettings) (e : Ends settings) (w : Trace Step) (now : ℕ) (d : List ℕ) (took : Took) → Follow settings w
     → (is_opening d ≡ true → (k : ℕ) × SentAgo Server w k d)
@@ -231,20 +273,20 @@ follow settings e (w ▷ At Server (Next bytes)) c s was = let i = follow settin
 
 pub meeting : (settings : Role → OpenSettings) (w : Trace Step) → Meet settings w → Follow settings w
 meeting settings w m =
-    let e : Ends settings = record { roles = m.roles; versions = m.versions; initials = m.initials } in
+    let e : Ends settings = record { roles = m.roles; versions = m.versions; initials = m.initials; hashes = m.hashes } in
     follow settings e w (m.sends Client) (m.sends Server) m.sent
 
 pub agrees : (settings : Role → OpenSettings) (w : Trace Step) (s : Role) (a : Agreement) → Meet settings w
     → agreed (settings s) (half s w) ≡ Some a → AgreesWith settings s a
 agrees settings w Client a m is =
-    let v = versions (settings Client).version (settings Server).version (m.versions Client) (m.versions Server) in
+    let v = versions (settings Client).cookie_hash (settings Server).cookie_hash (settings Client).version (settings Server).version (m.versions Client) (m.versions Server) in
     let same = at_is (at_client settings) (agreed (settings Client) (half Client w)) a (meeting settings w m).asks is in
     record {
       version_is = ap (λ (x : Agreement). x.version) same ∙ v.client;
       peer_is = ap (λ (x : Agreement). x.peer_initial) same;
     }
 agrees settings w Server a m is =
-    let v = versions (settings Client).version (settings Server).version (m.versions Client) (m.versions Server) in
+    let v = versions (settings Client).cookie_hash (settings Server).cookie_hash (settings Client).version (settings Server).version (m.versions Client) (m.versions Server) in
     let same = at_is (at_server settings) (agreed (settings Server) (half Server w)) a (meeting settings w m).serves is in
     record {
       version_is = ap (λ (x : Agreement). x.version) same ∙ v.server;

@@ -3,6 +3,7 @@ use Rattle.std.proofs.Common.{◌≡◌, ℕ, ◌==◌, Bool, true, false, ◌&&
 use Rattle.mt_base.specs.declared.kinds.Role.{Role}
 use Rattle.mt_base.specs.declared.kinds.Role.TheVariants.{Server, Client}
 use Rattle.carrier.specs.declared.state.Reason.{Reason}
+use Rattle.carrier.specs.declared.state.Reason.TheVariants as reason
 use Rattle.udp1_packets.specs.Layout.{has}
 use Rattle.udp1_packets.specs.Value.{Syn, Body, SynBody, DataBody, FecBody, BareBody, Packet}
 use Rattle.udp_open.specs.declared.settings.OpenSettings.{OpenSettings}
@@ -75,6 +76,19 @@ pub deaf : (s : OpenSettings) (a : Option Agreement) (r : Result Packet Reason) 
 deaf s None (Ok p) h = deaf_takes s p p.body h
 deaf s (Some a) (Ok p) h = rw (deaf_copy s a p.body h) tt
 deaf s a (Err why) h = tt
+
+-- of an end that agreed only what it agreed on is heard
+copied : (b : Bool) (a c : Agreement) → Ok c ≡ (if b then Ok a else Err reason.NotOurs) → c ≡ a
+copied true a c h = cc
+copied false a c h = cc
+
+pub heard_same : (s : OpenSettings) (o : Option Agreement) (r : Result Packet Reason) (a c : Agreement) → o ≡ Some a
+    → Ok c ≡ hears s o r → c ≡ a
+heard_same s o r a c is h = of_some r (subst (λ x. Ok c ≡ hears s x r) is h)
+  where
+    of_some : (r : Result Packet Reason) → Ok c ≡ hears s (Some a) r → c ≡ a
+    of_some (Ok p) h = copied (is_copy s a p.body) a c h
+    of_some (Err why) h = cc
 
 judged_only : (s : OpenSettings) (role : Role) (p : Packet) (o : Syn) → Only (agreement s.version o) (judged s role p o)
 judged_only s Server p o =

@@ -26,7 +26,7 @@ use Rattle.udp_open.specs.Agreeing.{is_syn, shows_syn, is_opening}
 use Rattle.udp_open.specs.Handshake.{shown, packet_or, hears, agreed, owed, owed_by, timer, timer_by, is_asking, is_time, started}
 use Rattle.udp_open.specs.LinkTrace.{has_syn, layout_by, begins, begins_by, reaches, tells, with_entries, machine, tellings, KeepsMachine, Answers, LinkFaithful}
 use Rattle.udp_open.specs.LinkView.{Link, StandsBy, StandsLink}
-use Rattle.udp_open.specs.OpeningView.{Handshake, Follows}
+use Rattle.udp_open.specs.OpeningView.{Handshake, Follows, IsFirst, IsOffered}
 use Rattle.udp_open.proofs.Heard.{Deaf, deaf, deaf_same}
 use Rattle.udp_open.proofs.Staying.{agreed_stays}
 
@@ -212,3 +212,13 @@ owes_two role m t is h = subst (λ r. Stands m (with_entries t (tellings r))) (s
 pub owes_none : (role : Role) (m : Machine) (t : Trace Entry) → role ≡ Server → Stands m t
     → Stands m (with_entries t (tellings role))
 owes_none role m t is h = subst (λ r. Stands m (with_entries t (tellings r))) (sym is) h
+
+-- a version below one of the first layout has that layout too
+pub first_below : (v w : ℕ) → IsOffered v → IsFirst w → v ≤ w → IsFirst v
+first_below v w (inl one) first le = inl one
+first_below v w (inr (inl two)) first le = inr two
+first_below v w (inr (inr three)) first le = absurd (too_high first)
+  where
+    too_high : IsFirst w → ⊥
+    too_high (inl one) = omega (arith, three, one, le)
+    too_high (inr two) = omega (arith, three, two, le)

@@ -1,6 +1,6 @@
 -- Two ends that open a link with each other over a network that loses, copies and reorders
 -- datagrams, and makes none.
-use Rattle.std.specs.Prelude.{◌≡◌, ℕ, ◌<◌, ◌^◌, Bool, true, false, min, List, Some, Result, Ok, Err}
+use Rattle.std.specs.Prelude.{◌≡◌, ℕ, ◌<◌, ◌^◌, Bool, true, false, min, List, length, Some, Result, Ok, Err}
 use Rattle.mt_base.specs.declared.kinds.Role.{Role}
 use Rattle.mt_base.specs.declared.kinds.Role.TheVariants.{Server, Client}
 use Rattle.mt_base.specs.Ends.{other}
@@ -8,6 +8,7 @@ use Rattle.mt_base.specs.Trace.{Trace, Start, ◌▷◌}
 use Rattle.carrier.specs.declared.state.Reason.{Reason}
 use Rattle.carrier.specs.Entries.{Entry, In, Polled}
 use Rattle.carrier.specs.Joined.{Step, At, half, SentAgo}
+use Rattle.udp1_packets.specs.Layout.{IsBytes}
 use Rattle.udp1_packets.specs.Value.{Body, SynBody, DataBody, FecBody, BareBody, Packet}
 use Rattle.udp_open.specs.declared.settings.OpenSettings.{OpenSettings}
 use Rattle.udp_open.specs.declared.agreement.Agreement.{Agreement}
@@ -44,11 +45,16 @@ WasSent (w ▷ At side (In now datagram took)) =
     (is_opening datagram ≡ true → (k : ℕ) × SentAgo (other side) w k datagram) × WasSent w
 WasSent (w ▷ e) = WasSent w
 
--- two ends with these settings, joined so
+-- 32 bytes
+abbrev pub IsHash : List ℕ → Type 0
+IsHash hash = (length hash ≡ 32) × IsBytes hash
+
+-- two ends with these settings, joined so; the hashes are looked at where a SYN shows them
 pub record Meet (settings : Role → OpenSettings) (w : Trace Step) : Type 0 where
   pub roles : (s : Role) → (settings s).role ≡ s
   pub versions : (s : Role) → IsOffered (settings s).version
   pub initials : (s : Role) → (settings s).initial < 2 ^ 32
+  pub hashes : (s : Role) → (settings s).version ≡ 0x0101 → IsHash (settings s).cookie_hash
   pub sends : (s : Role) → SendsDue (settings s) (half s w)
   pub sent : WasSent w
 

@@ -186,18 +186,27 @@ is_closed settings t = nat_lt 16 (expiries settings t)
 
 -- ---- what is sent
 
--- the extension that names a version (section 2.2.2.9)
-abbrev pub names : ℕ → Extended
-names version = record { flags = 0x0001; version = version; hash = None }
+-- The extension that names a version (section 2.2.2.9). A SYN that names 0x0101 shows the hash of its
+-- cookie.
+abbrev pub names : Bool → List ℕ → ℕ → Extended
+names answer own version = record {
+  flags = 0x0001;
+  version = version;
+  hash = if not answer && (version == 0x0101) then Some own else None;
+}
 
 abbrev pub marks_of : Kind → ℕ
 marks_of Reliable = 0
 marks_of Lossy = 0x0200
 
 -- the zeros that fill an opening up to 1,232 bytes
-abbrev pub filling : Option ℕ → ℕ
+abbrev pub behind : Option (List ℕ) → ℕ
+behind None = 1212
+behind (Some hash) = 1180
+
+abbrev pub filling : Option Extended → ℕ
 filling None = 1216
-filling (Some version) = 1212
+filling (Some e) = behind e.hash
 
 -- a SYN or a SYN+ACK of this end, that names a version or none
 abbrev pub opening_syn : OpenSettings → Bool → Option ℕ → Syn
@@ -207,8 +216,8 @@ opening_syn settings answer version = record {
   up = 1232;
   down = 1232;
   correlation = None;
-  extension = option_map names version;
-  padding = filling version;
+  extension = option_map (names answer settings.cookie_hash) version;
+  padding = filling (option_map (names answer settings.cookie_hash) version);
 }
 
 abbrev pub opening : OpenSettings → Bool → ℕ → Option ℕ → Packet

@@ -14,9 +14,13 @@ use Rattle.udp_open.specs.declared.opening.OpenEnd.{OpenEnd}
 use Rattle.udp_open.specs.declared.opening.OpenEnd.TheVariants.{Waiting, Agreed}
 use Rattle.udp_open.specs.Handshake.{agreed, owed, timer, expiry, is_time, started, Opens}
 
--- the versions that an end offers here
+-- the versions that an end offers
 abbrev pub IsOffered : ℕ → Type 0
-IsOffered version = (version ≡ 0x0001) ⊎ (version ≡ 0x0002)
+IsOffered version = (version ≡ 0x0001) ⊎ (version ≡ 0x0002) ⊎ (version ≡ 0x0101)
+
+-- those whose datagrams have the first layout
+abbrev pub IsFirst : ℕ → Type 0
+IsFirst version = (version ≡ 0x0001) ⊎ (version ≡ 0x0002)
 
 -- what is kept
 pub record Handshake : Type 0 where
@@ -36,6 +40,7 @@ pub record IsSound (o : Handshake) : Type 0 where
   pub version_is : IsOffered (o.settings).version
   pub moment_bound : o.moment < 2 ^ 62
   pub agreed_is : IfSome o.agreement (λ a. IsOffered a.version)
+  pub agreed_lower : IfSome o.agreement (λ a. a.version ≤ (o.settings).version)
   pub timer_is : IfSome o.timer IsTimer
   pub client_owes : (o.settings).role ≡ Client → o.owed ≡ 0
   pub none_owed : o.agreement ≡ None → o.owed ≡ 0

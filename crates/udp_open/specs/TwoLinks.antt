@@ -15,7 +15,7 @@ use Rattle.carrier.specs.TwoLinks.{AllRead, SettledArrive, arrived_from}
 use Rattle.udp1_core.specs.FirstLink.{link_layouts}
 use Rattle.udp_open.specs.declared.settings.OpenSettings.{OpenSettings}
 use Rattle.udp_open.specs.Handshake.{agreed}
-use Rattle.udp_open.specs.OpeningView.{IsOffered}
+use Rattle.udp_open.specs.OpeningView.{IsFirst}
 use Rattle.udp_open.specs.Agreeing.{AgreesWith}
 use Rattle.udp_open.specs.LinkTrace.{tells, LinkFaithful}
 use Rattle.udp_open.specs.LinkView.{Link, StandsLink}
@@ -27,7 +27,7 @@ use Rattle.udp_open.specs.LinkView.{Link, StandsLink}
 pub record LinkNet (late : ℕ) (settings : Role → OpenSettings) (w : Trace Step) : Type 0 where
   pub roles : (s : Role) → (settings s).role ≡ s
   pub kinds : (s : Role) → (settings s).kind ≡ Reliable
-  pub versions : (s : Role) → IsOffered (settings s).version
+  pub versions : (s : Role) → IsFirst (settings s).version
   pub initials : (s : Role) → (settings s).initial < 2 ^ 32
   pub in_time : WINDOW + late ≤ 2 ^ 31
   pub faithful : (s : Role) → LinkFaithful (settings s) (half s w)
@@ -89,7 +89,7 @@ settings_by server client Client = client
 pub record JoinedLinks (late : ℕ) (server client : Link) (w : Trace Step) : Type 0 where
   pub roles : (s : Role) → (settings_by (server.opening).settings (client.opening).settings s).role ≡ s
   pub kinds : (s : Role) → (settings_by (server.opening).settings (client.opening).settings s).kind ≡ Reliable
-  pub versions : (s : Role) → IsOffered (settings_by (server.opening).settings (client.opening).settings s).version
+  pub versions : (s : Role) → IsFirst (settings_by (server.opening).settings (client.opening).settings s).version
   pub initials : (s : Role) → (settings_by (server.opening).settings (client.opening).settings s).initial < 2 ^ 32
   pub server_stands : StandsLink server (half Server w)
   pub client_stands : StandsLink client (half Client w)

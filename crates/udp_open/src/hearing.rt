@@ -1,6 +1,6 @@
 //! What an end hears in a datagram.
 
-ghost use Rattle.std.specs.Prelude.{◌≡◌, true, IfOk, IfSome, option_map};
+ghost use Rattle.std.specs.Prelude.{◌≡◌, ◌≤◌, true, IfOk, IfSome, option_map};
 ghost use Rattle.mt_base.specs.declared.kinds.Role.TheVariants.{Server, Client};
 ghost use Rattle.udp1_packets.specs.Layout.{IsPacket, IsSyn, IsVersion, is_valid};
 ghost use Rattle.udp1_packets.specs.Views.{packet_of, body_of, syn_of, extended_of};
@@ -66,6 +66,7 @@ fn agreement(offered: u16, syn: &Syn1<'_>) -> Agreement
     requires offered { IsOffered offered }
     ensures value { result ≡ agreement offered (syn_of syn.now) }
     ensures offered { IsOffered result.version }
+    ensures lower { result.version ≤ offered }
 {
     Agreement {
         version: version_in(syn.extension).min(offered),
@@ -84,6 +85,7 @@ fn taken_by_server(
     requires offered { IsOffered settings.now.version }
     ensures value { result ≡ judged settings.now Server (packet_of packet.now) (syn_of syn.now) }
     ensures offered { IfOk result (λ a. IsOffered a.version) }
+    ensures lower { IfOk result (λ a. a.version ≤ settings.now.version) }
 {
     if !is_of(settings.kind, packet.marks & SYNLOSSY != 0) {
         return Err(Reason::WrongKind);
@@ -104,6 +106,7 @@ fn taken_by_client(
     requires offered { IsOffered settings.now.version }
     ensures value { result ≡ judged settings.now Client (packet_of packet.now) (syn_of syn.now) }
     ensures offered { IfOk result (λ a. IsOffered a.version) }
+    ensures lower { IfOk result (λ a. a.version ≤ settings.now.version) }
 {
     if packet.ack != settings.initial || settings.version < version_in(syn.extension) {
         return Err(Reason::BadAnswer);
@@ -118,6 +121,7 @@ fn takes(settings: &OpenSettings, packet: &Packet1<'_>) -> Result<Agreement, Rea
     ensures value { let packet = packet_of packet.now in
         result ≡ takes settings.now packet packet.body }
     ensures offered { IfOk result (λ a. IsOffered a.version) }
+    ensures lower { IfOk result (λ a. a.version ≤ settings.now.version) }
 {
     let Body1::Syn(syn) = packet.body else {
         return Err(Reason::NotOpen);
@@ -152,8 +156,10 @@ fn heard(
     requires good { IsPacket (packet_of packet.now) }
     requires offered { IsOffered settings.now.version }
     requires agreed { IfSome agreement (λ a. IsOffered a.version) }
+    requires lower { IfSome agreement (λ a. a.version ≤ settings.now.version) }
     ensures value { result ≡ heard settings.now agreement (packet_of packet.now) }
     ensures offered { IfOk result (λ a. IsOffered a.version) }
+    ensures lower { IfOk result (λ a. a.version ≤ settings.now.version) }
 {
     match agreement {
         None => takes(settings, packet),
@@ -175,8 +181,10 @@ pub fn hear(
 ) -> Result<Agreement, Reason>
     requires offered { IsOffered settings.now.version }
     requires agreed { IfSome agreement (λ a. IsOffered a.version) }
+    requires lower { IfSome agreement (λ a. a.version ≤ settings.now.version) }
     ensures value { result ≡ hears settings.now agreement (shown datagram.now) }
     ensures offered { IfOk result (λ a. IsOffered a.version) }
+    ensures lower { IfOk result (λ a. a.version ≤ settings.now.version) }
 {
     if datagram.len() > DATAGRAM {
         return Err(Reason::TooLong);

@@ -11,7 +11,7 @@ ghost use Rattle.carrier.specs.declared.state.Took.TheVariants.{Ignored};
 ghost use Rattle.carrier.specs.declared.state.Reason.TheVariants as reason;
 ghost use Rattle.carrier.specs.Entries.{Entry, Gave, In, Polled, Owed};
 ghost use Rattle.udp1_core.specs.MachineView.{Stands, layout_of, link_layout, condition_of};
-ghost use Rattle.udp_open.specs.OpeningView.{IsOffered, end_of};
+ghost use Rattle.udp_open.specs.OpeningView.{IsFirst, end_of};
 ghost use Rattle.udp_open.specs.LinkTrace.{LinkFaithful, begins, with_entries, has_syn, tellings};
 ghost use Rattle.udp_open.specs.LinkView.{StandsLink, condition_in, left_in, load_in, IsNextDueIn, is_closed_state};
 
@@ -41,19 +41,20 @@ impl Model for UdpLink {
     ghost use Rattle.std.specs.Prelude.{◌≤◌};
     ghost use Rattle.std.specs.Vec.{vec_capacity};
     ghost use Rattle.mt_windows.specs.declared.limits.TheConstants.{QUEUE};
+    ghost use Rattle.udp_open.specs.OpeningView.{IsFirst};
     ghost use Rattle.udp_open.specs.LinkView.{Link, IsSoundLink};
 
     ghost Value = { Link };
 
     ghost view = { λ l. record { opening = l.opening; early = l.early.items; core = l.core } };
 
-    ghost invariant = { λ l. record { sound : IsSoundLink (record { opening = l.opening; early = l.early.items; core = l.core }); room : QUEUE ≤ vec_capacity l.early } };
+    ghost invariant = { λ l. record { sound : IsSoundLink (record { opening = l.opening; early = l.early.items; core = l.core }); room : QUEUE ≤ vec_capacity l.early; first : IsFirst ((l.opening).settings).version } };
 }
 
 impl UdpLink {
     /// A link that opens with these settings, whose version is 0x0001 or 0x0002.
     pub fn new(alloc: Global, settings: &OpenSettings) -> Result<UdpLink, NoMemory>
-        requires { IsOffered settings.now.version }
+        requires { IsFirst settings.now.version }
         ensures stands { IfOk result (λ l. StandsLink l Start) }
         ensures settings { IfOk result (λ l. l.opening.settings ≡ settings.now) }
         ensures left { IfOk result (λ l. left_in l ≡ []) }
@@ -70,7 +71,7 @@ impl UdpLink {
 
     /// Starts the machine, and hands it the bytes that were given while the link opened.
     fn begin(&mut self, version: u16, peer_initial: u32)
-        requires { IsOffered version }
+        requires { IsFirst version }
         ensures stands { Stands self.new.core (with_entries Start (begins self.old.opening.settings.role self.old.early)) }
         ensures layout { layout_of self.new.core ≡ link_layout self.old.opening.settings.initial peer_initial version }
         ensures left { left_of self.new.core.receiver.inbox ≡ [] }

@@ -1,6 +1,6 @@
 //! The opening of a link.
 
-ghost use Rattle.std.specs.Prelude.{ℕ, max, ◌≡◌, ◌-◌, ◌<◌, ◌^◌, List, true, not, nat_lt, Option, if◌then◌else◌, Some, None, Ok, take, drop, option_map, IfSome};
+ghost use Rattle.std.specs.Prelude.{ℕ, max, ◌≡◌, ◌-◌, ◌<◌, ◌≤◌, ◌^◌, List, true, not, nat_lt, Option, if◌then◌else◌, Some, None, Ok, take, drop, option_map, IfSome};
 ghost use Rattle.mt_base.specs.declared.kinds.Role.TheVariants.{Client as IsClient};
 ghost use Rattle.mt_base.specs.Trace.{Trace, Start, ◌▷◌};
 ghost use Rattle.carrier.specs.declared.state.Took.{Took};
@@ -173,7 +173,8 @@ impl Opening {
 
     /// Keeps what the ends agreed on. A server owes one SYN+ACK more.
     fn agree(&mut self, agreement: Agreement)
-        requires { IsOffered agreement.version }
+        requires offered { IsOffered agreement.version }
+        requires lower { agreement.version ≤ self.old.settings.version }
         ensures { self.new ≡ record self.old { agreement = Some agreement; timer = None; owed = owed_by self.old.settings.role self.old.owed (Ok agreement) } }
     {
         self.agreement = Some(agreement);
@@ -254,6 +255,9 @@ impl Opening {
             result ≡ end_of (agreed self.now.settings t) }
         ensures value { result ≡ end_of self.now.agreement }
         ensures offered { (version peer : ℕ) → result ≡ IsAgreed version peer → IsOffered version }
+        // It is not above the version that this end offers.
+        ensures lower { (version peer : ℕ) → result ≡ IsAgreed version peer →
+            version ≤ self.now.settings.version }
     {
         match self.agreement {
             Some(agreement) => OpenEnd::Agreed {

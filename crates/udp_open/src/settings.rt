@@ -11,7 +11,7 @@ use sha2::{Digest, Sha256};
 pub struct OpenSettings {
     pub role: Role,
     pub kind: Kind,
-    /// The version that it offers: 0x0001 or 0x0002.
+    /// The version that it offers: 0x0001, 0x0002 or 0x0101; on a lossy link not the last.
     pub version: u16,
     /// snInitialSequenceNumber, its initial number.
     pub initial: u32,

@@ -17,6 +17,14 @@ const SYN_ACK: [u8; 20] = [
     0, 0, 0, 1, 0x00, 0x40, 0x10, 0x05, 0, 0, 0, 9, 0x04, 0xd0, 0x04, 0xd0, 0, 1, 0, 2,
 ];
 
+/// What the SYN of a client with version 0x0101 and the initial number 1 begins with: it shows the hash
+/// of a cookie of 16 zeros.
+const SYN_3: [u8; 52] = [
+    0xff, 0xff, 0xff, 0xff, 0x00, 0x40, 0x10, 0x01, 0, 0, 0, 1, 0x04, 0xd0, 0x04, 0xd0, 0, 1, 1, 1,
+    0x37, 0x47, 0x08, 0xff, 0xf7, 0x71, 0x9d, 0xd5, 0x97, 0x9e, 0xc8, 0x75, 0xd5, 0x6c, 0xd2, 0x28,
+    0x6f, 0x6d, 0x3c, 0xf7, 0xec, 0x31, 0x7a, 0x3b, 0x25, 0x63, 0x2a, 0xab, 0x28, 0xec, 0x37, 0xbb,
+];
+
 fn opening(role: Role, kind: Kind, version: u16, initial: u32) -> Opening
     requires { IsOffered version }
 {
@@ -94,27 +102,34 @@ fn another_syn_is_not_ours(rt: HostRuntime) {
 
 #[test]
 fn a_cookie_is_known_by_its_hash(rt: HostRuntime) {
-    let hash = [
-        0x37, 0x47, 0x08, 0xff, 0xf7, 0x71, 0x9d, 0xd5, 0x97, 0x9e, 0xc8, 0x75, 0xd5, 0x6c, 0xd2,
-        0x28, 0x6f, 0x6d, 0x3c, 0xf7, 0xec, 0x31, 0x7a, 0x3b, 0x25, 0x63, 0x2a, 0xab, 0x28, 0xec,
-        0x37, 0xbb,
-    ];
-    assert_eq!(rt; hash_cookie(&[0; 16]), hash);
-    let syn = [
-        0xff, 0xff, 0xff, 0xff, 0x00, 0x40, 0x10, 0x01, 0, 0, 0, 1, 0x04, 0xd0, 0x04, 0xd0, 0, 1,
-        1, 1, 0x37, 0x47, 0x08, 0xff, 0xf7, 0x71, 0x9d, 0xd5, 0x97, 0x9e, 0xc8, 0x75, 0xd5, 0x6c,
-        0xd2, 0x28, 0x6f, 0x6d, 0x3c, 0xf7, 0xec, 0x31, 0x7a, 0x3b, 0x25, 0x63, 0x2a, 0xab, 0x28,
-        0xec, 0x37, 0xbb,
-    ];
-    let mut other = filled(&syn);
+    assert!(rt; hash_cookie(&[0; 16]).as_slice() == &SYN_3[20..52]);
+    let mut other = filled(&SYN_3);
     other[51] = 0xba;
     let mut server = opening(Role::Server, Kind::Reliable, 2, 9);
     assert_eq!(rt;
         server.input(0, &other),
         Took::Ignored(Reason::UnknownCookie)
     );
-    assert_eq!(rt; server.input(0, &filled(&syn)), Took::Used);
+    assert_eq!(rt; server.input(0, &filled(&SYN_3)), Took::Used);
     assert!(rt; sends(&mut server, 0, &SYN_ACK));
+}
+
+#[test]
+fn both_ends_agree_on_the_last_version(rt: HostRuntime) {
+    let mut client = opening(Role::Client, Kind::Reliable, 0x0101, 1);
+    let mut server = opening(Role::Server, Kind::Reliable, 0x0101, 9);
+    assert!(rt; sends(&mut client, 0, &SYN_3));
+    assert_eq!(rt; server.input(0, &filled(&SYN_3)), Took::Used);
+    let mut answer = SYN_ACK;
+    answer[18] = 1;
+    answer[19] = 1;
+    assert!(rt; sends(&mut server, 0, &answer));
+    assert_eq!(rt; client.input(0, &filled(&answer)), Took::Used);
+    let agreed = OpenEnd::Agreed {
+        version: 0x0101,
+        peer_initial: 9,
+    };
+    assert_eq!(rt; client.end(), agreed);
 }
 
 #[test]

@@ -191,7 +191,7 @@ machine_plain d = by_load d.load
 opening_has : (s : OpenSettings) (answer : Bool) (ack : ℕ) (version : Option ℕ) → has_syn (spelled (opening s answer ack version)) ≡ true
 opening_has s answer ack version = by_marks s.kind answer version
   where
-    by_marks : (kind : Kind) (answer : Bool) (version : Option ℕ) → ((marks_of kind + (0x0001 + flag_if answer 0x0004 + 0 + flag_if (is_some (option_map names version)) 0x1000)) % 256 % 2 == 1) ≡ true
+    by_marks : (kind : Kind) (answer : Bool) (version : Option ℕ) → ((marks_of kind + (0x0001 + flag_if answer 0x0004 + 0 + flag_if (is_some (option_map (names answer s.cookie_hash) version)) 0x1000)) % 256 % 2 == 1) ≡ true
     by_marks Reliable true None = refl
     by_marks Reliable true (Some v) = refl
     by_marks Reliable false None = refl

@@ -11,7 +11,7 @@ use Rattle.carrier.specs.Law.{Faithful}
 use Rattle.carrier.specs.Joined.{half, Timely}
 use Rattle.udp1_packets.specs.Reading.{body_at, data_at, number_where, packet_at, rest_at, told_at, vector_where, opening_at, syn_with, mtu_at, version_at, block32_at, extension_at, extended_at, zeros_at}
 use Rattle.udp_open.specs.Handshake.{agreed}
-use Rattle.udp_open.specs.OpeningView.{IsOffered}
+use Rattle.udp_open.specs.OpeningView.{IsFirst}
 use Rattle.udp_open.specs.LinkTrace.{layout_by, LinkFaithful}
 use Rattle.udp_open.specs.TwoLinks.{LinkNet}
 use Rattle.udp_open.specs.OneLink.{one_agreement, one_link, one_settings}
@@ -63,7 +63,7 @@ one_net = record {
     kinds Server = refl
     kinds Client = refl
 
-    versions : (s : Role) → IsOffered (one_settings s).version
+    versions : (s : Role) → IsFirst (one_settings s).version
     versions Server = inl refl
     versions Client = inr refl
 

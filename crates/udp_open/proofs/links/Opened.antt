@@ -1,5 +1,5 @@
 -- What a link sends is sent by its opening or by its machine; so two joined links agree.
-use Rattle.std.proofs.Common.{◌≡◌, ◌⊎◌, inl, inr, ℕ, Bool, true, false, List, Option, Some, None, refl, sym, ap, ◌∙◌}
+use Rattle.std.proofs.Common.{◌≡◌, ◌⊎◌, inl, inr, ℕ, Bool, true, false, List, Option, Some, None, refl, sym, ap, ◌∙◌, arith}
 use Rattle.std.specs.Prelude.{nat_lt, max, if◌then◌else◌, IfSome}
 use Rattle.std.specs.Option.{option_map}
 use Rattle.mt_base.specs.declared.kinds.Role.{Role}
@@ -13,6 +13,7 @@ use Rattle.udp1_packets.specs.Layout.{spelled}
 use Rattle.udp_open.specs.declared.settings.OpenSettings.{OpenSettings}
 use Rattle.udp_open.specs.declared.agreement.Agreement.{Agreement}
 use Rattle.udp_open.specs.Handshake.{agreed, owed, timer, opening_due}
+use Rattle.udp_open.specs.OpeningView.{IsFirst, IsOffered}
 use Rattle.udp_open.specs.Agreeing.{is_opening, SendsDue, WasSent, Meet, AgreesWith}
 use Rattle.udp_open.specs.LinkTrace.{has_syn, layout_by, machine, link_due, due_by, LinkFaithful}
 use Rattle.udp_open.specs.TwoLinks.{LinkNet, AgreesIn}
@@ -92,11 +93,20 @@ was_sent late (w ▷ At side (Owed count)) h = was_sent late w h
 was_sent late (w ▷ At side (Posted bytes)) h = was_sent late w h
 was_sent late (w ▷ At side (Next bytes)) h = was_sent late w h
 
+offered : {v : ℕ} → IsFirst v → IsOffered v
+offered (inl one) = inl one
+offered (inr two) = inr (inl two)
+
+not_third : {v : ℕ} → IsFirst v → v ≡ 0x0101 → ⊥
+not_third (inl one) is = omega (arith, one, is)
+not_third (inr two) is = omega (arith, two, is)
+
 meet : (late : ℕ) (settings : Role → OpenSettings) (w : Trace Step) → LinkNet late settings w → Meet settings w
 meet late settings w h = record {
   roles = h.roles;
-  versions = h.versions;
+  versions = λ s. offered (h.versions s);
   initials = h.initials;
+  hashes = λ s is. absurd (not_third (h.versions s) is);
   sends = λ s. sends_due (settings s) (half s w) (h.faithful s);
   sent = was_sent late w h.timely;
 }

@@ -1,4 +1,4 @@
-use Rattle.std.proofs.Common.{nat_lt, ap, ◌∙◌, rules, arith, length, ◌≡◌}
+use Rattle.std.proofs.Common.{nat_lt, ap, ◌∙◌, rules, arith}
 use Rattle.udp1_packets.specs.Layout.{spelled}
 use Rattle.udp_open.specs.Handshake.{syn_ack}
 use Rattle.udp_open.specs.OpeningView.{Handshake}

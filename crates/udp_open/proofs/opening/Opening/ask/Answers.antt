@@ -1,4 +1,4 @@
-use Rattle.std.proofs.Common.{nat_lt, sym, ap, ◌∙◌, rules, arith, length, ◌≡◌}
+use Rattle.std.proofs.Common.{nat_lt, sym, ap, ◌∙◌, rules, arith}
 use Rattle.udp1_packets.specs.Layout.{spelled}
 use Rattle.udp_open.specs.declared.timer.Timer.{Timer}
 use Rattle.udp_open.specs.Handshake.{syn}
