@@ -1,8 +1,8 @@
-mod Further
-mod Making
+pub mod Further
+pub mod Making
 mod Cuts
 mod Portions
-mod Sending
+pub mod Sending
 mod Fewest
 pub mod Entries
 pub mod Standing

@@ -1,0 +1,16 @@
+pub mod Acts
+pub mod Said
+pub mod Channels
+pub mod Tunnels
+pub mod Moving
+pub mod Holding
+pub mod Writing
+pub mod Faults
+pub mod Growing
+pub mod World
+pub mod Alone
+pub mod Orders
+pub mod Session
+pub mod Meeting
+pub mod Fitting
+pub mod Sessions

@@ -1,0 +1,115 @@
+//! Laws of an end, and of two.
+
+ghost use Rattle.std.specs.Prelude.{◌≡◌, ℕ, List, [], None, true};
+ghost use Rattle.mt_base.specs.Trace.{Trace};
+ghost use Rattle.mt_base.specs.declared.kinds.Role.{Role};
+ghost use Rattle.mt_base.specs.declared.kinds.Role.TheVariants.{Client, Server};
+ghost use Rattle.dvc_pdus.specs.Value.{Pdu};
+ghost use Rattle.mt_endpoint.specs.Acts.{Act, Heard, Spoken};
+ghost use Rattle.mt_endpoint.specs.Alone.{EndOfActs};
+ghost use Rattle.mt_endpoint.specs.Orders.{AnswersFit, EachMay, MayAsk, MayCreate, MayList, MayTell, answers_of, told_by};
+ghost use Rattle.mt_endpoint.specs.Faults.{is_moved, is_moved_whole, late_fault, main_fault, unknown_fault};
+ghost use Rattle.mt_endpoint.specs.Meeting.{Comes, Meet, is_control};
+ghost use Rattle.mt_endpoint.specs.Moving.{all_told, inward, read_by};
+ghost use Rattle.mt_endpoint.specs.Said.{Brings, Ends, said};
+ghost use Rattle.mt_endpoint.specs.World.{SafeWay};
+ghost use Rattle.mt_endpoint.specs.Fitting.{AreJoined};
+ghost use Rattle.mt_endpoint.specs.Sessions.{AnswersInOrder, ClosesBehind, MovesTwice, PicksSome};
+ghost use Rattle.mt_endpoint.specs.Session.{Shows};
+ghost use Rattle.mt_endpoint.specs.Writing.{spoken};
+
+/// A session by hand, worked out on the definitions: a channel and a tunnel are created, the channel
+/// moves to the tunnel, and a message that came through the tunnel ahead of the word is held and then
+/// delivered.
+pub fn a_session_moves_a_channel()
+    ensures { Shows }
+{}
+
+/// Further ones. A close that stands behind held data is read after them. A second request moves a
+/// second channel. Requests that are read before the tunnel is open are answered in their order when
+/// it opens. A lossy tunnel delivers some of what was sent, in order.
+pub fn sessions_by_hand()
+    ensures close { ClosesBehind }
+    ensures twice { MovesTwice }
+    ensures waiting { AnswersInOrder }
+    ensures lossy { PicksSome }
+{}
+
+/// On the main stream a server asks for a tunnel of each kind at most once, and a client asks for none;
+/// a client answers, and a server does not (MS-RDPBCGR sections 2.2.15.1 and 2.2.15.2).
+pub fn a_tunnel_is_asked_for_once()
+    ensures { (role : Role) (t : Trace Act) → EndOfActs role t → EachMay (MayAsk role) [] (spoken role t) }
+{}
+
+/// The first channel PDU of an end tells its capabilities, and no other does (MS-RDPEDYC section
+/// 3.1.5.1.1). A server tells them as it begins, a client as it reads those of the server.
+pub fn capabilities_come_first_and_once()
+    ensures { (role : Role) (t : Trace Act) → EndOfActs role t → EachMay MayTell [] (spoken role t) }
+{}
+
+/// A channel's creation comes first (MS-RDPEDYC section 3.1.5.2). A server creates each channel once,
+/// and never more than 256. A client does not answer again for a channel that it accepted. Data and a
+/// close on the main stream, and a Soft-Sync request, are for channels that the server created before,
+/// or that the client accepted before.
+pub fn creations_come_first()
+    ensures { (role : Role) (t : Trace Act) → EndOfActs role t → EachMay (MayCreate role) [] (spoken role t) }
+{}
+
+/// Soft-Sync answers fit their requests (MS-RDPEDYC section 3.1.5.3): the k-th answer that an end
+/// writes is to the k-th request that it read, and names only kinds of tunnel that this one names, each
+/// once. So there are never more answers than requests.
+pub fn answers_fit_requests()
+    ensures { (role : Role) (t : Trace Act) → EndOfActs role t
+        → AnswersFit (all_told read_by t) (told_by answers_of (spoken role t)) }
+{}
+
+/// A channel moves once: a Soft-Sync request lists only channels that none before it listed, each once
+/// (MS-RDPEDYC section 2.2.5.1.1), and no more than 256 requests are made.
+pub fn a_channel_is_listed_once()
+    ensures { (role : Role) (t : Trace Act) → EndOfActs role t → EachMay MayList [] (spoken role t) }
+{}
+
+/// What a server writes on the main stream beside data and closes is no fault at the client: neither
+/// requests for tunnels, nor capabilities, nor creations, nor Soft-Sync requests. Each end has read
+/// a front of what the other has written, and the frame is the next that comes.
+pub fn a_client_meets_no_fault()
+    ensures { (here there : Trace Act) (heard : Heard) → Meet Client here there → Comes Client here there heard
+        → is_control heard ≡ true → main_fault Client here heard ≡ None }
+{}
+
+/// What a client writes on the main stream beside data and closes is no fault at the server: neither
+/// answers about tunnels, nor capabilities, nor answers for channels, nor Soft-Sync answers. Each end
+/// has read a front of what the other has written, and the frame is the next that comes.
+pub fn a_server_meets_no_fault()
+    ensures { (here there : Trace Act) (heard : Heard) → Meet Server here there → Comes Server here there heard
+        → is_control heard ≡ true → main_fault Server here heard ≡ None }
+{}
+
+/// Nothing of a channel comes too late on the main stream: behind the word that moves the channel to a
+/// tunnel come no data of it, and no close where the tunnel is reliable (MS-RDPEDYC section 3.1.5.3).
+pub fn nothing_comes_too_late()
+    ensures of_data { (role : Role) (here there : Trace Act) (pdu : Pdu) (id : ℕ) → Meet role here there
+        → Comes role here there (Spoken pdu) → said pdu ≡ Brings id
+        → late_fault role here id (is_moved (inward id here)) ≡ None }
+    ensures of_close { (role : Role) (here there : Trace Act) (pdu : Pdu) (id : ℕ) → Meet role here there
+        → Comes role here there (Spoken pdu) → said pdu ≡ Ends id
+        → late_fault role here id (is_moved_whole (inward id here)) ≡ None }
+{}
+
+/// A close of the other end on the main stream is no fault, and data are for a channel that takes them:
+/// it was created, and is open or closed by now.
+pub fn a_close_is_no_fault()
+    ensures of_close { (role : Role) (here there : Trace Act) (pdu : Pdu) (id : ℕ) → Meet role here there
+        → Comes role here there (Spoken pdu) → said pdu ≡ Ends id → main_fault role here (Spoken pdu) ≡ None }
+    ensures of_data { (role : Role) (here there : Trace Act) (pdu : Pdu) (id : ℕ) → Meet role here there
+        → Comes role here there (Spoken pdu) → said pdu ≡ Brings id → unknown_fault role here id ≡ None }
+{}
+
+/// At any moment of two ends that met no fault and of which each took what left the other: what is
+/// delivered on a channel is the front of what the other end sent. Where the sender moved the channel
+/// to the lossy tunnel, it is the front of what was sent before that, or all of that and then some of
+/// what was sent afterwards, in order. This holds in both directions, across the move, with what is
+/// held ahead of its word, a close behind it, and requests that wait for their answer.
+pub fn delivered_was_sent()
+    ensures { (server client : Trace Act) → AreJoined server client → (id : ℕ) → SafeWay Client id server client × SafeWay Server id client server }
+{}

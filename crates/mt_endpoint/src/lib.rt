@@ -1,0 +1,18 @@
+//! One end of a session: its channels, its tunnels, and the Soft-Sync exchange that moves channels
+//! from the main stream to tunnels (MS-RDPEDYC section 3.1.5, MS-RDPEMT section 3). So far it is
+//! definitions and laws: what an end does is a list of acts, and what it writes, holds, delivers and
+//! is at fault for are functions of that list. The code of an end is still to come.
+//!
+//! Below it stand `dvc_channels`, `dvc_pdus`, `tunnel_pdus`, `tunnel_cookies` and `soft_sync`, whose
+//! definitions it joins. What the crates above will use is that what is delivered on a channel was
+//! sent, in order and each once, also across the channel's move ([`delivered_was_sent`]).
+#![tactic(auto)]
+
+mod laws;
+
+pub use laws::{
+    a_channel_is_listed_once, a_client_meets_no_fault, a_close_is_no_fault,
+    a_server_meets_no_fault, a_session_moves_a_channel, a_tunnel_is_asked_for_once,
+    answers_fit_requests, capabilities_come_first_and_once, creations_come_first,
+    delivered_was_sent, nothing_comes_too_late, sessions_by_hand,
+};
