@@ -29,3 +29,4 @@ pub mod Taken
 pub mod Safety
 pub mod LossyWay
 pub mod BothWays
+pub mod Growth

@@ -12,8 +12,8 @@ ghost use Rattle.mt_endpoint.specs.Faults.{is_moved, is_moved_whole, late_fault,
 ghost use Rattle.mt_endpoint.specs.Meeting.{Comes, Meet, is_control};
 ghost use Rattle.mt_endpoint.specs.Moving.{all_told, inward, read_by};
 ghost use Rattle.mt_endpoint.specs.Said.{Brings, Ends, said};
-ghost use Rattle.mt_endpoint.specs.World.{SafeWay};
-ghost use Rattle.mt_endpoint.specs.Fitting.{AreJoined};
+ghost use Rattle.mt_endpoint.specs.World.{NetOfActs, SafeWay, side};
+ghost use Rattle.mt_endpoint.specs.Fitting.{AreJoined, Fitting};
 ghost use Rattle.mt_endpoint.specs.Sessions.{AnswersInOrder, ClosesBehind, MovesTwice, PicksSome};
 ghost use Rattle.mt_endpoint.specs.Session.{Shows};
 ghost use Rattle.mt_endpoint.specs.Writing.{spoken};
@@ -109,7 +109,9 @@ pub fn a_close_is_no_fault()
 /// delivered on a channel is the front of what the other end sent. Where the sender moved the channel
 /// to the lossy tunnel, it is the front of what was sent before that, or all of that and then some of
 /// what was sent afterwards, in order. This holds in both directions, across the move, with what is
-/// held ahead of its word, a close behind it, and requests that wait for their answer.
+/// held ahead of its word, a close behind it, and requests that wait for their answer. Two ends, step by
+/// step, are such ends at each place where no act has met a fault.
 pub fn delivered_was_sent()
-    ensures { (server client : Trace Act) → AreJoined server client → (id : ℕ) → SafeWay Client id server client × SafeWay Server id client server }
+    ensures moment { (server client : Trace Act) → AreJoined server client → (id : ℕ) → SafeWay Client id server client × SafeWay Server id client server }
+    ensures steps { (w : Trace (Role × Act)) → NetOfActs w → Fitting Server (side Server w) → Fitting Client (side Client w) → (id : ℕ) → SafeWay Client id (side Server w) (side Client w) × SafeWay Server id (side Client w) (side Server w) }
 {}
