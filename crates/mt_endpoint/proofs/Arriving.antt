@@ -59,7 +59,7 @@ pub record Came (role : Role) (id : ℕ) (kind : Kind) (t : Trace Act) : Type 0 
   pub all_heard : is_closed role id t ≡ false → hs ≡ heard t
   pub all_held : is_closed role id t ≡ false → rest ≡ pdus (only id (held role kind t))
 
-word_later : (role : Role) (id : ℕ) (t : Trace Act) (act : Act) (hs gs : List Pdu) → IsPrefixOf hs gs → IsWord role id t hs → IsWord role id (t ▷ act) gs
+pub word_later : (role : Role) (id : ℕ) (t : Trace Act) (act : Act) (hs gs : List Pdu) → IsPrefixOf hs gs → IsWord role id t hs → IsWord role id (t ▷ act) gs
 word_later role id t act hs gs longer w =
     let later = word-all (other role) (all_told made_by t) (made_by act) id hs w.0 w.1 in
     (w.0, ap (word (other role) (all_told made_by (t ▷ act)) id) longer.1 ∙ word-more (other role) (all_told made_by (t ▷ act)) id hs longer.0 w.0 later)

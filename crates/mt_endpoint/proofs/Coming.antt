@@ -28,7 +28,7 @@ use Rattle.mt_endpoint.proofs.Closing.{undrawn_held, quiet_releases}
 use Rattle.mt_endpoint.proofs.Arriving.{Passes, passes_at, Came, of_drawn-step, undrawn, once_closed, no_piece, no_pull, hears_any, pulled, pieces_not, data_mine}
 
 -- a PDU of another channel is let go
-other_due : (id made : ℕ) (pdu : Pdu) → channel_of pdu ≡ Some made → eqb made id ≡ false → is_mine id pdu ≡ false
+pub other_due : (id made : ℕ) (pdu : Pdu) → channel_of pdu ≡ Some made → eqb made id ≡ false → is_mine id pdu ≡ false
 other_due id made pdu ch off = ap (is_of id) ch ∙ off
 
 other_first : (id made : ℕ) (pdu : Pdu) (b : Bool) (queue : List Held) → channel_of pdu ≡ Some made → eqb made id ≡ false → only id (cond b (without_first (channel_of pdu) queue) queue) ≡ only id queue
@@ -41,7 +41,7 @@ same_is Lossy Lossy h = refl
 same_is Reliable Lossy h = cc
 same_is Lossy Reliable h = cc
 
-moved_word : (o : Option Kind) → is_moved (path_of o) ≡ true → (kind : Kind) × (o ≡ Some kind)
+pub moved_word : (o : Option Kind) → is_moved (path_of o) ≡ true → (kind : Kind) × (o ≡ Some kind)
 moved_word None h = absurd (let no : false ≡ true = h in cc)
 moved_word (Some kind) h = (kind, refl)
 

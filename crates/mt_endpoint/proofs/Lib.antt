@@ -30,3 +30,5 @@ pub mod Safety
 pub mod LossyWay
 pub mod BothWays
 pub mod Growth
+pub mod NextPiece
+pub mod MainData

@@ -105,6 +105,14 @@ pub fn a_close_is_no_fault()
         → Comes role here there (Spoken pdu) → said pdu ≡ Brings id → unknown_fault role here id ≡ None }
 {}
 
+/// No frame of the other end on the main stream is a fault, data among them: each piece of a message
+/// follows those before it, and none tells more than 1,048,576 bytes (MS-RDPEDYC section 3.1.5.1.4).
+/// Each end has read a front of what the other has written, and the frame is the next that comes.
+pub fn no_frame_is_a_fault()
+    ensures { (role : Role) (here there : Trace Act) (heard : Heard) → Meet role here there → Comes role here there heard
+        → main_fault role here heard ≡ None }
+{}
+
 /// At any moment of two ends that met no fault and of which each took what left the other: what is
 /// delivered on a channel is the front of what the other end sent. Where the sender moved the channel
 /// to the lossy tunnel, it is the front of what was sent before that, or all of that and then some of
