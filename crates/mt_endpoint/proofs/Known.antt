@@ -90,7 +90,7 @@ all_without : (Q : Option ℕ → Type 0) (id : ℕ) (xs : List Held) → AllOf 
 all_without Q id [] h = tt
 all_without Q id (x ∷ xs) h = all_cond Q (is_of id (channel_of x.pdu)) (without id xs) (x ∷ without id xs) (all_without Q id xs h.1) (h.0, all_without Q id xs h.1)
 
-all_only : (Q : Option ℕ → Type 0) (id : ℕ) (xs : List Held) → AllOf Q xs → AllOf Q (only id xs)
+pub all_only : (Q : Option ℕ → Type 0) (id : ℕ) (xs : List Held) → AllOf Q xs → AllOf Q (only id xs)
 all_only Q id [] h = tt
 all_only Q id (x ∷ xs) h = all_cond Q (is_of id (channel_of x.pdu)) (x ∷ only id xs) (only id xs) (h.0, all_only Q id xs h.1) (all_only Q id xs h.1)
 

@@ -85,7 +85,7 @@ reads_front here there m = (
       ∙ map-append request_read (told_by requests_told (hears there)) (told_by requests_told m.to_there.0) ∙ ap (λ l. l ++ map request_read (told_by requests_told m.to_there.0)) (reads_are there).requests_are,
 )
 
-begin_of : (role : Role) (here there : Trace Act) → Meet role here there → Begin (other role) there (all_told made_by here)
+pub begin_of : (role : Role) (here there : Trace Act) → Meet role here there → Begin (other role) there (all_told made_by here)
 begin_of Server here there m = reads_front here there m
 begin_of Client here there m = tt
 

@@ -32,3 +32,5 @@ pub mod BothWays
 pub mod Growth
 pub mod NextPiece
 pub mod MainData
+pub mod HeldTaken
+pub mod Released

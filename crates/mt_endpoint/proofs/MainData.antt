@@ -1,9 +1,8 @@
 -- Data of the other end on the main stream are taken: what arrived of a channel that has not moved is what
 -- was read of it, and what comes next was sent next.
-use Rattle.std.proofs.Common.{◌≡◌, ℕ, Bool, true, false, not, eqb, cond, List, [], ◌∷◌, ◌++◌, flat_map, Option, Some, None, refl, sym, ap, subst, ◌∙◌, append_assoc, append-nil, eq-eqb}
+use Rattle.std.proofs.Common.{◌≡◌, ℕ, Bool, true, false, not, eqb, cond, [], ◌∷◌, ◌++◌, flat_map, None, refl, sym, ap, subst, ◌∙◌, append_assoc, append-nil, eq-eqb}
 use Rattle.std.proofs.lemmas.Bool.{eqb-true}
 use Rattle.std.specs.Option.{option_or}
-use Rattle.mt_base.specs.declared.kinds.Kind.{Kind}
 use Rattle.mt_base.specs.declared.kinds.Role.{Role}
 use Rattle.mt_base.specs.declared.kinds.Role.TheVariants.{Server, Client}
 use Rattle.mt_base.specs.Ends.{other}
@@ -11,7 +10,7 @@ use Rattle.mt_base.specs.Trace.{Trace, Start, ◌▷◌}
 use Rattle.dvc_pdus.specs.Value.{Pdu}
 use Rattle.dvc_channels.specs.declared.answers.ChannelState.{ChannelState}
 use Rattle.dvc_channels.specs.declared.answers.ChannelState.TheVariants as state
-use Rattle.dvc_channels.specs.Pieces.{Piece, pieces_of, under_way}
+use Rattle.dvc_channels.specs.Pieces.{pieces_of, under_way}
 use Rattle.dvc_channels.specs.Acts.{data_refusal, refusal_in}
 use Rattle.dvc_channels.specs.Acts as channels
 use Rattle.soft_sync.specs.declared.kinds.Path.TheVariants.{Main}
@@ -21,9 +20,8 @@ use Rattle.mt_endpoint.specs.Said.{Said, Capable, Creates, Created, Brings, Ends
 use Rattle.mt_endpoint.specs.Channels.{table, channel, is_closed, is_closed_in, is_ready}
 use Rattle.mt_endpoint.specs.Moving.{all_told, made_by, inward}
 use Rattle.mt_endpoint.specs.Faults.{because, data_fault, unknown_fault, late_fault, said_fault, main_fault, is_moved, is_capable}
-use Rattle.mt_endpoint.specs.World.{IsPrefixOf, hears, sent_on}
+use Rattle.mt_endpoint.specs.World.{hears, sent_on}
 use Rattle.mt_endpoint.specs.Meeting.{Meet, Comes, is_control, is_for_channel}
-use Rattle.mt_endpoint.proofs.Fronts.{front-append}
 use Rattle.mt_endpoint.proofs.ChannelPdus.{spoken_pdus, spoken_pdus-append, is_data, brings_to, pieces, pieces-append, out}
 use Rattle.mt_endpoint.proofs.Fitting.{Fits, Fitting}
 use Rattle.mt_endpoint.proofs.Items.{is_at}
@@ -85,7 +83,7 @@ arrived_on_main role id (t ▷ act) f live away =
 
 -- ---- what comes next
 
-data_pieces : (id : ℕ) (pdu : Pdu) → is_data id pdu ≡ true → pieces id (pdu ∷ []) ≡ pieces_of pdu
+pub data_pieces : (id : ℕ) (pdu : Pdu) → is_data id pdu ≡ true → pieces id (pdu ∷ []) ≡ pieces_of pdu
 data_pieces id pdu h = ap (λ b. flat_map pieces_of (cond b (pdu ∷ []) [])) h ∙ append-nil (pieces_of pdu)
 
 comes_next : (role : Role) (here there : Trace Act) (pdu : Pdu) (id : ℕ) → Meet role here there → (h : Comes role here there (Spoken pdu)) → said pdu ≡ Brings id

@@ -1,22 +1,19 @@
 -- The pieces of messages that were sent are in order, and each is taken where those before it came.
-use Rattle.std.proofs.Common.{◌≡◌, ℕ, ◌+◌, ◌≤◌, Bool, true, false, eqb, cond, ltb, List, [], ◌∷◌, ◌++◌, flat_map, length, map, Option, Some, None, refl, sym, ap, subst, ◌∙◌, append_assoc, length-append, arith}
+use Rattle.std.proofs.Common.{◌≡◌, ℕ, ◌+◌, ◌≤◌, Bool, true, false, eqb, cond, List, [], ◌∷◌, ◌++◌, flat_map, length, map, Option, Some, None, refl, ap, subst}
 use Rattle.std.proofs.lemmas.Bool.{le-ltb}
 use Rattle.mt_base.specs.declared.kinds.Role.{Role}
-use Rattle.mt_base.specs.Ends.{other}
 use Rattle.mt_base.specs.Trace.{Trace, Start, ◌▷◌}
 use Rattle.dvc_pdus.specs.Value.{Pdu, Caps, CreateRequest, CreateResponse, DataFirst, Data, CompressedFirst, Compressed, Close, SyncRequest, SyncResponse}
-use Rattle.dvc_channels.specs.declared.answers.ChannelRefusal.{ChannelRefusal}
 use Rattle.dvc_channels.specs.declared.answers.ChannelRefusal.TheVariants as refusal
 use Rattle.dvc_channels.specs.Pieces.{Piece, First, Next, Part, pieces_of, under_way, under_way_from, goes_on}
 use Rattle.dvc_channels.specs.Cutting.{IsCut, lone, at_once, filled, AreCut, none, more, MayFollow, InOrder}
 use Rattle.dvc_channels.specs.Acts.{data_refusal}
-use Rattle.dvc_channels.proofs.Further.{first_in_order}
 use Rattle.dvc_channels.proofs.Making.{cuts_make}
 use Rattle.dvc_channels.proofs.Sending.{sent_are_cut}
 use Rattle.mt_endpoint.specs.Acts.{Act}
 use Rattle.mt_endpoint.specs.Channels.{message_to}
 use Rattle.mt_endpoint.specs.Moving.{outward}
-use Rattle.mt_endpoint.specs.World.{IsPrefixOf, sent_on}
+use Rattle.mt_endpoint.specs.World.{sent_on}
 use Rattle.soft_sync.specs.declared.kinds.Path.{Path}
 use Rattle.mt_endpoint.proofs.Fitting.{Fits, Fitting}
 use Rattle.mt_endpoint.proofs.Items.{View, sends, syncs, answers, plain, view}
@@ -28,7 +25,7 @@ abbrev pub AreLimited : List (List ℕ) → Type 0
 AreLimited [] = Unit {0}
 AreLimited (message ∷ sent) = (length message ≤ 1048576) × AreLimited sent
 
-limited-append : (xs ys : List (List ℕ)) → AreLimited xs → AreLimited ys → AreLimited (xs ++ ys)
+pub limited-append : (xs ys : List (List ℕ)) → AreLimited xs → AreLimited ys → AreLimited (xs ++ ys)
 limited-append [] ys h k = k
 limited-append (x ∷ xs) ys h k = (h.0, limited-append xs ys h.1 k)
 
@@ -118,10 +115,13 @@ taken_next id came (SyncRequest flags tunnels lists) rest h k = no_piece_taken i
 taken_next id came (SyncResponse types) rest h k = no_piece_taken id (under_way came) (SyncResponse types) refl
 
 -- where these and what follows are the pieces of messages that were sent
+pub limited_taken : (id : ℕ) (sent : List (List ℕ)) (came : List Piece) (pdu : Pdu) (rest : List Piece) → AreLimited sent → flat_map pieces_of (cut id sent) ≡ came ++ (pieces_of pdu ++ rest) → data_refusal id (under_way came) pdu ≡ None
+limited_taken id sent came pdu rest limited split =
+    let cuts = sent_are_cut id sent in
+    let few = few_cuts (flat_map pieces_of (cut id sent)) sent cuts limited in
+    let in_order = (cuts_make (flat_map pieces_of (cut id sent)) sent cuts).in_order in
+    taken_next id came pdu rest (subst (InOrder None) split in_order) (subst TellFew split few)
+
 pub sent_taken : (is_on : Path → Bool) (role : Role) (id : ℕ) (s : Trace Act) (came : List Piece) (pdu : Pdu) (rest : List Piece) → Fitting role s → flat_map pieces_of (cut id (sent_on is_on id s)) ≡ came ++ (pieces_of pdu ++ rest)
     → data_refusal id (under_way came) pdu ≡ None
-sent_taken is_on role id s came pdu rest f split =
-    let cuts = sent_are_cut id (sent_on is_on id s) in
-    let few = few_cuts (flat_map pieces_of (cut id (sent_on is_on id s))) (sent_on is_on id s) cuts (all_limited is_on role id s f) in
-    let in_order = (cuts_make (flat_map pieces_of (cut id (sent_on is_on id s))) (sent_on is_on id s) cuts).in_order in
-    taken_next id came pdu rest (subst (InOrder None) split in_order) (subst TellFew split few)
+sent_taken is_on role id s came pdu rest f split = limited_taken id (sent_on is_on id s) came pdu rest (all_limited is_on role id s f) split

@@ -44,7 +44,7 @@ pub record Joined (role : Role) (here there : Trace Act) : Type 0 where
 
 -- ---- fronts and picks of PDUs
 
-front-keep : (test : Pdu → Bool) (xs ys : List Pdu) → IsPrefixOf xs ys → IsPrefixOf (keep test xs) (keep test ys)
+pub front-keep : (test : Pdu → Bool) (xs ys : List Pdu) → IsPrefixOf xs ys → IsPrefixOf (keep test xs) (keep test ys)
 front-keep test xs ys h = (keep test h.0, ap (keep test) h.1 ∙ keep-append test xs h.0)
 
 pub pick-keep : (test : Pdu → Bool) (xs ys : List Pdu) → IsPickOf xs ys → IsPickOf (keep test xs) (keep test ys)
@@ -73,7 +73,7 @@ pub heard_front : (role : Role) (here there : Trace Act) → Joined role here th
 heard_front role here there j = (spoken_pdus j.main.0, ap spoken_pdus j.main.1 ∙ spoken_pdus-append (hears here) j.main.0)
 
 -- what of the PDUs of a tunnel came through it
-drawn_front : (role : Role) (here there : Trace Act) → Joined role here there → IsPrefixOf (drawn Reliable here) (out (Tunnel Reliable) (other role) there)
+pub drawn_front : (role : Role) (here there : Trace Act) → Joined role here there → IsPrefixOf (drawn Reliable here) (out (Tunnel Reliable) (other role) there)
 drawn_front role here there j = (carried_pdus j.reliable.0, ap carried_pdus j.reliable.1 ∙ carried_pdus-append (draws Reliable here) j.reliable.0)
 
 pub drawn_pick : (role : Role) (here there : Trace Act) → Joined role here there → IsPickOf (drawn Lossy here) (out (Tunnel Lossy) (other role) there)

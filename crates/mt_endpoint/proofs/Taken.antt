@@ -81,18 +81,18 @@ kept_accepts : (t : Trace Act) (ys : List Heard) (s : ChannelState) (id : ℕ) �
 kept_accepts t ys s id none old later h =
     later (old (sym (ap (is_among id) (told-append acceptance (hears t) ys ∙ ap (λ l. told_by acceptance (hears t) ++ l) none ∙ append-nil (told_by acceptance (hears t)))) ∙ h))
 
-closed_taken : (b : Bool) (s : ChannelState) → is_taken_in s ≡ true → is_taken_in (cond b state.Closed s) ≡ true
+pub closed_taken : (b : Bool) (s : ChannelState) → is_taken_in s ≡ true → is_taken_in (cond b state.Closed s) ≡ true
 closed_taken true s h = refl
 closed_taken false s h = h
 
-taken_known : (s : ChannelState) → is_taken_in s ≡ true → is_known_in s ≡ true
+pub taken_known : (s : ChannelState) → is_taken_in s ≡ true → is_known_in s ≡ true
 taken_known state.Unknown h = h
 taken_known state.Asked h = refl
 taken_known state.Open h = refl
 taken_known state.Refused h = refl
 taken_known state.Closed h = refl
 
-new_taken : (b : Bool) (s : ChannelState) → (b ≡ true → ⊥) → is_taken_in s ≡ true → is_taken_in (cond b state.Asked s) ≡ true
+pub new_taken : (b : Bool) (s : ChannelState) → (b ≡ true → ⊥) → is_taken_in s ≡ true → is_taken_in (cond b state.Asked s) ≡ true
 new_taken true s new h = absurd (new refl)
 new_taken false s new h = h
 

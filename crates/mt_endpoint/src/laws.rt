@@ -1,19 +1,23 @@
 //! Laws of an end, and of two.
 
-ghost use Rattle.std.specs.Prelude.{◌≡◌, ℕ, List, [], None, true};
+ghost use Rattle.std.specs.Prelude.{◌≡◌, ℕ, List, [], ◌∷◌, None, true, false};
 ghost use Rattle.mt_base.specs.Trace.{Trace};
+ghost use Rattle.mt_base.specs.Ends.{other};
+ghost use Rattle.mt_base.specs.declared.kinds.Kind.TheVariants.{Reliable};
 ghost use Rattle.mt_base.specs.declared.kinds.Role.{Role};
 ghost use Rattle.mt_base.specs.declared.kinds.Role.TheVariants.{Client, Server};
 ghost use Rattle.dvc_pdus.specs.Value.{Pdu};
 ghost use Rattle.mt_endpoint.specs.Acts.{Act, Heard, Spoken};
 ghost use Rattle.mt_endpoint.specs.Alone.{EndOfActs};
+ghost use Rattle.mt_endpoint.specs.Channels.{is_closed};
+ghost use Rattle.mt_endpoint.specs.Holding.{Held, held, is_through, only};
 ghost use Rattle.mt_endpoint.specs.Orders.{AnswersFit, EachMay, MayAsk, MayCreate, MayList, MayTell, answers_of, told_by};
-ghost use Rattle.mt_endpoint.specs.Faults.{is_moved, is_moved_whole, late_fault, main_fault, unknown_fault};
+ghost use Rattle.mt_endpoint.specs.Faults.{is_moved, is_moved_whole, late_fault, main_fault, release_fault, unknown_fault};
 ghost use Rattle.mt_endpoint.specs.Meeting.{Comes, Meet, is_control};
 ghost use Rattle.mt_endpoint.specs.Moving.{all_told, inward, read_by};
 ghost use Rattle.mt_endpoint.specs.Said.{Brings, Ends, said};
 ghost use Rattle.mt_endpoint.specs.World.{NetOfActs, SafeWay, side};
-ghost use Rattle.mt_endpoint.specs.Fitting.{AreJoined, Fitting};
+ghost use Rattle.mt_endpoint.specs.Fitting.{AreJoined, Fitting, HasLeft};
 ghost use Rattle.mt_endpoint.specs.Sessions.{AnswersInOrder, ClosesBehind, MovesTwice, PicksSome};
 ghost use Rattle.mt_endpoint.specs.Session.{Shows};
 ghost use Rattle.mt_endpoint.specs.Writing.{spoken};
@@ -111,6 +115,16 @@ pub fn a_close_is_no_fault()
 pub fn no_frame_is_a_fault()
     ensures { (role : Role) (here there : Trace Act) (heard : Heard) → Meet role here there → Comes role here there heard
         → main_fault role here heard ≡ None }
+{}
+
+/// What is held of a channel is taken as it is released. The channel's word, by which it moves to the
+/// reliable tunnel, was read, and the channel is not closed: then the first PDU that is held for it is
+/// refused by nothing. By the lossy tunnel only what the channel takes is released, and the rest is
+/// dropped. What this end read and pulled left the other.
+pub fn no_release_is_a_fault()
+    ensures { (role : Role) (here there : Trace Act) (id : ℕ) (first : Held) (rest : List Held) → Meet role here there
+        → HasLeft (other role) there here → is_through Reliable (inward id here) ≡ true → is_closed role id here ≡ false
+        → only id (held role Reliable here) ≡ first ∷ rest → release_fault role here first.pdu ≡ None }
 {}
 
 /// At any moment of two ends that met no fault and of which each took what left the other: what is
