@@ -4,10 +4,9 @@ use Rattle.mt_base.specs.declared.kinds.Role.{Role}
 use Rattle.mt_base.specs.declared.kinds.Role.TheVariants.{Server, Client}
 use Rattle.mt_base.specs.declared.kinds.Kind.{Kind}
 use Rattle.mt_base.specs.declared.kinds.Kind.TheVariants.{Reliable, Lossy}
-use Rattle.mt_base.specs.Ends.{other}
 use Rattle.mt_base.specs.Trace.{Trace, Start, ◌▷◌}
 use Rattle.soft_sync.specs.Exchanges.{Request}
-use Rattle.mt_endpoint.specs.Acts.{Act, Answers, Releases, Discards, Heard, Drawn}
+use Rattle.mt_endpoint.specs.Acts.{Act, Answers, Releases, Discards}
 use Rattle.mt_endpoint.specs.Channels.{is_closed}
 use Rattle.mt_endpoint.specs.Tunnels.{is_silent}
 use Rattle.mt_endpoint.specs.Moving.{read, unanswered_in, may_answer, answer_to}
@@ -17,7 +16,7 @@ use Rattle.mt_endpoint.specs.Faults.{Why, release_fault}
 use Rattle.mt_endpoint.specs.Growing.{Grown, fine, answer_all, answered, released, release_all, freed, grown}
 use Rattle.mt_endpoint.specs.World.{IsPrefixOf, IsPickOf, heard_in, drawn_in, hears, draws, side, NetOfActs}
 use Rattle.mt_endpoint.specs.Fitting.{HasLeft}
-use Rattle.mt_endpoint.proofs.Fronts.{front-same, front-append, front-trans, front-at, pick-nothing, pick-append, pick-trans, pick-same, pick-at}
+use Rattle.mt_endpoint.proofs.Fronts.{front-same, front-append, front-trans, front-at, pick-nothing, pick-append, pick-same, pick-at}
 
 pub record Keeps (role : Role) (t v : Trace Act) : Type 0 where
   pub hears_are : hears v ≡ hears t
