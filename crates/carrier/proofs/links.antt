@@ -13,7 +13,7 @@ pub mod Ends
 pub mod Comes
 pub mod Pulled
 pub mod Meant
-pub mod Whole
+pub mod AllCalls
 pub mod Small
 pub mod SmallSeen
 pub mod Informed

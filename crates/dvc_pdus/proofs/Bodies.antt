@@ -7,7 +7,7 @@ use Rattle.byteorder.specs.Endian.{little_bytes}
 use Rattle.byteorder.specs.Numbers.{length-bytes_low_first}
 use Rattle.mt_base.specs.Reading.{little}
 use Rattle.mt_base.specs.Writing.{joined}
-use Rattle.mt_base.proofs.Fronts.{left_at, byte_reads, little_reads, little_cut, big_cut}
+use Rattle.mt_base.proofs.FrontFields.{left_at, byte_reads, little_reads, little_cut, big_cut}
 use Rattle.dvc_pdus.specs.declared.pdu.DvcRefusal.{DvcRefusal}
 use Rattle.dvc_pdus.specs.declared.pdu.DvcRefusal.TheVariants as refusal
 use Rattle.dvc_pdus.specs.Value.{Caps, CreateRequest, CreateResponse, DataFirst, Data, CompressedFirst, Compressed, Close, IsName}

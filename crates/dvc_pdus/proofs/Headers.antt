@@ -4,7 +4,7 @@ use Rattle.std.proofs.lemmas.Bool.{cases_eq, ne_eqb}
 use Rattle.mt_base.specs.Reading.{Left}
 use Rattle.mt_base.specs.declared.kinds.Role.{Role}
 use Rattle.mt_base.specs.declared.kinds.Role.TheVariants.{Server, Client}
-use Rattle.mt_base.proofs.Fronts.{left_at, byte_reads}
+use Rattle.mt_base.proofs.FrontFields.{left_at, byte_reads}
 use Rattle.dvc_pdus.specs.declared.command.Command.TheVariants as command
 use Rattle.dvc_pdus.specs.declared.pdu.DvcRefusal.{DvcRefusal}
 use Rattle.dvc_pdus.specs.declared.pdu.DvcRefusal.TheVariants as refusal

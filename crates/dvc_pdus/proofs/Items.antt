@@ -7,7 +7,7 @@ use Rattle.std.proofs.lemmas.Grind.{flat_map-append}
 use Rattle.mt_base.specs.Reading.{Left}
 use Rattle.mt_base.proofs.Numbers.{IsBytes}
 use Rattle.mt_base.proofs.Fields.{Plainly, Taken, Begins, bytes_after, taken_by, not_both}
-use Rattle.mt_base.proofs.Fronts.{left_at}
+use Rattle.mt_base.proofs.FrontFields.{left_at}
 use Rattle.dvc_pdus.specs.declared.pdu.DvcRefusal.{DvcRefusal}
 use Rattle.dvc_pdus.specs.Reading.{◌>>=◌, items_at, items_in}
 use Rattle.dvc_pdus.specs.Faults.{Among}

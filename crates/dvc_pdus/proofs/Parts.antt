@@ -13,7 +13,7 @@ use Rattle.dvc_pdus.specs.Value.{Pdu, IsNameByte, IsName}
 use Rattle.dvc_pdus.specs.Reading.{id_at, leading_id_at, length_at, ended, is_name_byte, name_to, name_at}
 use Rattle.dvc_pdus.specs.Layout.{id_in, IsSizeOf}
 use Rattle.dvc_pdus.specs.Faults.{Cut, RefusedName, wrong_byte, too_many, not_ended}
-use Rattle.mt_base.proofs.Fronts.{left_at}
+use Rattle.mt_base.proofs.FrontFields.{left_at}
 
 -- ---- the id
 

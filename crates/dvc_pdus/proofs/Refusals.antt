@@ -6,7 +6,7 @@ use Rattle.mt_base.specs.Writing.{joined}
 use Rattle.mt_base.specs.declared.kinds.Role.{Role}
 use Rattle.mt_base.specs.declared.kinds.Role.TheVariants.{Server, Client}
 use Rattle.mt_base.proofs.Fields.{as_err}
-use Rattle.mt_base.proofs.Fronts.{left_at, big_cut}
+use Rattle.mt_base.proofs.FrontFields.{left_at, big_cut}
 use Rattle.dvc_pdus.specs.declared.pdu.DvcRefusal.{DvcRefusal}
 use Rattle.dvc_pdus.specs.declared.pdu.DvcRefusal.TheVariants as refusal
 use Rattle.dvc_pdus.specs.Value.{SyncRequest, SyncResponse, list_count}

@@ -8,7 +8,7 @@ use Rattle.mt_base.specs.Writing.{joined}
 use Rattle.mt_base.specs.declared.kinds.Role.{Role}
 use Rattle.mt_base.specs.declared.kinds.Role.TheVariants.{Server, Client}
 use Rattle.mt_base.specs.declared.kinds.Kind.{Kind}
-use Rattle.mt_base.proofs.Fronts.{left_at}
+use Rattle.mt_base.proofs.FrontFields.{left_at}
 use Rattle.dvc_pdus.specs.Value.{Pdu, Caps, CreateRequest, CreateResponse, DataFirst, Data, CompressedFirst, Compressed, Close, SyncRequest, SyncResponse, ChannelList, type_field, list_count, sync_length}
 use Rattle.dvc_pdus.specs.Reading.{◌>>=◌, ended, items_at, list_at, pdu_at}
 use Rattle.dvc_pdus.specs.Layout.{first_byte, id_in, Spells}

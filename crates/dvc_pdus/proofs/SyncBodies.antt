@@ -3,7 +3,7 @@ use Rattle.std.proofs.Common.{◌≡◌, ◌≢◌, ℕ, ◌+◌, ◌^◌, ◌<�
 use Rattle.std.proofs.lemmas.Bool.{ne_eqb, eq-eqb}
 use Rattle.byteorder.specs.Endian.{little_bytes}
 use Rattle.mt_base.specs.Reading.{Left, little}
-use Rattle.mt_base.proofs.Fronts.{left_at, byte_reads, little_reads, little_cut, big_cut}
+use Rattle.mt_base.proofs.FrontFields.{left_at, byte_reads, little_reads, little_cut, big_cut}
 use Rattle.dvc_pdus.specs.declared.pdu.DvcRefusal.{DvcRefusal}
 use Rattle.dvc_pdus.specs.declared.pdu.DvcRefusal.TheVariants as refusal
 use Rattle.dvc_pdus.specs.Value.{Pdu, SyncRequest, SyncResponse, list_count}

@@ -8,7 +8,7 @@ use Rattle.mt_base.specs.declared.kinds.Kind.{Kind}
 use Rattle.mt_base.specs.declared.kinds.Kind.TheVariants.{Reliable, Lossy}
 use Rattle.mt_base.proofs.Fields.{Begins, little_or}
 use Rattle.mt_base.proofs.Fill.{joined-append}
-use Rattle.mt_base.proofs.Fronts.{left_at, little_reads, little_cut}
+use Rattle.mt_base.proofs.FrontFields.{left_at, little_reads, little_cut}
 use Rattle.dvc_pdus.specs.declared.pdu.DvcRefusal.{DvcRefusal}
 use Rattle.dvc_pdus.specs.declared.pdu.DvcRefusal.TheVariants as refusal
 use Rattle.dvc_pdus.specs.Value.{ChannelList, IsList, tunnel_type, type_field, list_fields, lists_fields}

@@ -9,7 +9,7 @@ use Rattle.mt_base.specs.Reading.{Left}
 use Rattle.mt_base.specs.declared.kinds.Role.{Role}
 use Rattle.mt_base.specs.declared.kinds.Role.TheVariants.{Server, Client}
 use Rattle.mt_base.proofs.Numbers.{IsBytes}
-use Rattle.mt_base.proofs.Fronts.{left_at}
+use Rattle.mt_base.proofs.FrontFields.{left_at}
 use Rattle.mt_base.proofs.Meanings.{Meaning, was_spelled, was_fault}
 use Rattle.mt_base.proofs.Fields.{as_err, not_both, ok_is}
 use Rattle.dvc_pdus.specs.declared.pdu.DvcRefusal.{DvcRefusal}

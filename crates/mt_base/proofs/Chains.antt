@@ -10,7 +10,7 @@ use Rattle.mt_base.specs.Parts.{◌>>=◌, Cut, where_set, where_some}
 use Rattle.mt_base.proofs.Lists.{heads}
 use Rattle.mt_base.proofs.Fill.{joined-append}
 use Rattle.mt_base.proofs.Numbers.{IsBytes}
-use Rattle.mt_base.proofs.Fronts.{left_at}
+use Rattle.mt_base.proofs.FrontFields.{left_at}
 use Rattle.mt_base.proofs.Fields.{Field, Refuses, CutShort, Begins}
 
 -- ---- where a list of fields is cut

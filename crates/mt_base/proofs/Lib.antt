@@ -1,7 +1,8 @@
 pub mod Fill
 pub mod Numbers
 pub mod Fields
-pub mod Fronts
+pub mod FrontFields
+pub mod Prefixes
 pub mod Chains
 pub mod Meanings
 pub mod Lists

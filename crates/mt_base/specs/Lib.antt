@@ -1,5 +1,6 @@
 pub mod Ends
 pub mod Trace
+pub mod Prefix
 pub mod Nearness
 pub mod Reading
 pub mod CursorView

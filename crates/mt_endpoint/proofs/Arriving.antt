@@ -22,8 +22,8 @@ use Rattle.mt_endpoint.specs.Tunnels as tunnels
 use Rattle.mt_endpoint.specs.Moving.{all_told, made_by, inward}
 use Rattle.mt_endpoint.specs.Holding.{Held, held, is_held, is_for_open, channel_in, channel_of, is_of, only}
 use Rattle.mt_endpoint.specs.Faults.{Why, Unexpected, said_fault, carried_fault, tunnel_fault, is_moved, is_taken_in}
-use Rattle.mt_endpoint.specs.World.{IsPrefixOf, IsPickOf}
-use Rattle.mt_endpoint.proofs.Fronts.{front-same, front-trans, pick-same, pick-nothing, pick-append, pick-at}
+use Rattle.mt_base.specs.Prefix.{IsPrefixOf, IsPickOf}
+use Rattle.mt_base.proofs.Prefixes.{front-same, front-trans, pick-same, pick-nothing, pick-append, pick-at}
 use Rattle.mt_endpoint.proofs.ChannelPdus.{carried_pdus, keep-append, of, is_mine, is_data, brings_to, pieces, pieces-append}
 use Rattle.mt_endpoint.proofs.Words.{word, word-more, word-all}
 use Rattle.mt_endpoint.proofs.Fitting.{Fits, Fitting, said_fine}

@@ -5,7 +5,8 @@ use Rattle.mt_base.specs.Trace.{Trace}
 use Rattle.soft_sync.specs.declared.kinds.Path.TheVariants.{Main}
 use Rattle.mt_endpoint.specs.Acts.{Act}
 use Rattle.mt_endpoint.specs.Moving.{all_told, made_by, read_by}
-use Rattle.mt_endpoint.specs.World.{IsPrefixOf, hears, SafeWay}
+use Rattle.mt_base.specs.Prefix.{IsPrefixOf}
+use Rattle.mt_endpoint.specs.World.{hears, SafeWay}
 use Rattle.mt_endpoint.specs.Fitting.{AreJoined}
 use Rattle.mt_endpoint.proofs.ChannelPdus.{spoken_pdus, spoken_pdus-append, out}
 use Rattle.mt_endpoint.proofs.Words.{requests_in, requests-append}

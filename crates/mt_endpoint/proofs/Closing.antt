@@ -15,7 +15,7 @@ use Rattle.mt_endpoint.specs.Said.{Said, Capable, Creates, Created, Brings, Ends
 use Rattle.mt_endpoint.specs.Channels.{table, channel, is_open, is_closed, is_closed_in, is_known, is_known_in}
 use Rattle.mt_endpoint.specs.Tunnels.{same_kind}
 use Rattle.mt_endpoint.specs.Holding.{Held, held, held_after, is_held, may_hold, is_for_open, fits, channel_of, is_of, only, without_first, unless_ended}
-use Rattle.mt_endpoint.proofs.Fronts.{nothing_first, nothing_second}
+use Rattle.mt_base.proofs.Prefixes.{nothing_first, nothing_second}
 use Rattle.mt_endpoint.proofs.ChannelPdus.{carried_pdus, of, keep-append, is_mine}
 use Rattle.mt_endpoint.proofs.Fitting.{IsDue, Fits, Fitting, said_fine}
 use Rattle.mt_endpoint.proofs.HeldPdus.{only-append, none_without, none_first, none_ended}

@@ -16,8 +16,8 @@ use Rattle.mt_endpoint.specs.Tunnels.{same_kind}
 use Rattle.mt_endpoint.specs.Moving.{all_told, made_by, inward}
 use Rattle.mt_endpoint.specs.Holding.{Held, held, channel_of, is_of, only, without_first}
 use Rattle.mt_endpoint.specs.Faults.{is_moved}
-use Rattle.mt_endpoint.specs.World.{IsPickOf, none, passed}
-use Rattle.mt_endpoint.proofs.Fronts.{front-same, pick-same, pick-append, pick-trans, nothing_first}
+use Rattle.mt_base.specs.Prefix.{IsPickOf, none, passed}
+use Rattle.mt_base.proofs.Prefixes.{front-same, pick-same, pick-append, pick-trans, nothing_first}
 use Rattle.mt_endpoint.proofs.ChannelPdus.{of, is_mine, is_data, pieces, pieces-append}
 use Rattle.mt_endpoint.proofs.Words.{word}
 use Rattle.mt_endpoint.proofs.Fitting.{IsDue, Fits, Fitting}

@@ -16,7 +16,8 @@ use Rattle.soft_sync.specs.Exchanges.{listed}
 use Rattle.mt_endpoint.specs.Channels.{is_known, is_ready}
 use Rattle.mt_endpoint.specs.Moving.{all_told, read_by, answer_made, read, channels_listed}
 use Rattle.mt_endpoint.specs.Faults.{Why, Unexpected, SyncUnknown, Channel, when, main_fault, said_fault, request_fault, ids_fault, is_capable}
-use Rattle.mt_endpoint.specs.World.{IsPrefixOf, hears}
+use Rattle.mt_base.specs.Prefix.{IsPrefixOf}
+use Rattle.mt_endpoint.specs.World.{hears}
 use Rattle.mt_endpoint.specs.Orders.{EachMay, MayAsk, MayTell, MayCreate, SaidMay, capable, is_among, channels_of, told_by, listings, ids_in, AllAmong, EachNew, MovesMay, MayList}
 use Rattle.mt_endpoint.specs.Meeting.{Meet, Comes, is_for_channel, is_control}
 use Rattle.mt_endpoint.proofs.Each.{each_at}

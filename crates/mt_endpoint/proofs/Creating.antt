@@ -21,7 +21,8 @@ use Rattle.mt_endpoint.specs.Moving.{outward, inward, channels_listed}
 use Rattle.mt_endpoint.specs.Holding.{channel_in}
 use Rattle.mt_endpoint.specs.Writing.{adds, closing, unless, reply, DENIED, on_main, spoken}
 use Rattle.mt_endpoint.specs.Faults.{Why, Channel, Unexpected, when, is_capable, said_fault, unknown_fault, late_fault, is_moved_whole, is_taken_in, answer_fault}
-use Rattle.mt_endpoint.specs.World.{MayMove, IsPrefixOf}
+use Rattle.mt_base.specs.Prefix.{IsPrefixOf}
+use Rattle.mt_endpoint.specs.World.{MayMove}
 use Rattle.mt_endpoint.specs.Alone.{IsAct, EndOfActs, IsDue}
 use Rattle.mt_endpoint.specs.Orders.{EachMay, is_among, told_by, creation, acceptance, channels_of, AllAmong, SaidMay, MayCreate}
 use Rattle.mt_endpoint.proofs.Asking.{neither}

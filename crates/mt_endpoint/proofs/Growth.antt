@@ -14,9 +14,10 @@ use Rattle.mt_endpoint.specs.Holding.{Held, held, only}
 use Rattle.mt_endpoint.specs.Writing.{adds, on_main, into, spoken, carried}
 use Rattle.mt_endpoint.specs.Faults.{Why, release_fault}
 use Rattle.mt_endpoint.specs.Growing.{Grown, fine, answer_all, answered, released, release_all, freed, grown}
-use Rattle.mt_endpoint.specs.World.{IsPrefixOf, IsPickOf, heard_in, drawn_in, hears, draws, side, NetOfActs}
+use Rattle.mt_base.specs.Prefix.{IsPrefixOf, IsPickOf}
+use Rattle.mt_endpoint.specs.World.{heard_in, drawn_in, hears, draws, side, NetOfActs}
 use Rattle.mt_endpoint.specs.Fitting.{HasLeft}
-use Rattle.mt_endpoint.proofs.Fronts.{front-same, front-append, front-trans, front-at, pick-nothing, pick-append, pick-same, pick-at}
+use Rattle.mt_base.proofs.Prefixes.{front-same, front-append, front-trans, front-at, pick-nothing, pick-append, pick-same, pick-at}
 
 pub record Keeps (role : Role) (t v : Trace Act) : Type 0 where
   pub hears_are : hears v ≡ hears t

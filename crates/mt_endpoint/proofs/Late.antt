@@ -18,7 +18,8 @@ use Rattle.mt_endpoint.specs.Channels.{is_closed}
 use Rattle.mt_endpoint.specs.Moving.{all_told, made_by, read_by, answer_made, unanswered_in, inward, request_read}
 use Rattle.mt_endpoint.specs.Holding.{is_through}
 use Rattle.mt_endpoint.specs.Faults.{when, TooLateOnMain, is_moved, is_moved_whole, late_fault}
-use Rattle.mt_endpoint.specs.World.{IsPrefixOf, hears}
+use Rattle.mt_base.specs.Prefix.{IsPrefixOf}
+use Rattle.mt_endpoint.specs.World.{hears}
 use Rattle.mt_endpoint.specs.Alone.{IsAct, EndOfActs}
 use Rattle.mt_endpoint.specs.Orders.{told_by, requests_told}
 use Rattle.mt_endpoint.specs.Meeting.{Meet, Comes}

@@ -1,4 +1,3 @@
-pub mod Fronts
 pub mod ChannelPdus
 pub mod Fitting
 pub mod Words

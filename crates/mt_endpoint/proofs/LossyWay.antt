@@ -19,8 +19,9 @@ use Rattle.mt_endpoint.specs.Acts.{Act}
 use Rattle.mt_endpoint.specs.Channels.{table, delivered, sent, message_to}
 use Rattle.mt_endpoint.specs.Moving.{outward}
 use Rattle.mt_endpoint.specs.Holding.{is_through}
-use Rattle.mt_endpoint.specs.World.{IsPrefixOf, IsPickOf, none, taken, passed, ShortOn, sent_on, is_lossy, is_sure, IsDelivered, front, picked, IsSafe, SafeWay}
-use Rattle.mt_endpoint.proofs.Fronts.{front-trans, front-at, pick-same, pick-nothing, pick-append, pick-trans, pick-at}
+use Rattle.mt_base.specs.Prefix.{IsPrefixOf, IsPickOf, none, taken, passed}
+use Rattle.mt_endpoint.specs.World.{ShortOn, sent_on, is_lossy, is_sure, IsDelivered, front, picked, IsSafe, SafeWay}
+use Rattle.mt_base.proofs.Prefixes.{front-trans, front-at, pick-same, pick-nothing, pick-append, pick-trans, pick-at}
 use Rattle.mt_endpoint.proofs.ChannelPdus.{of, is_mine, is_data, data_of, data_of-of, pieces, out}
 use Rattle.mt_endpoint.proofs.Fitting.{Fits, Fitting}
 use Rattle.mt_endpoint.proofs.Items.{View, sends, syncs, answers, plain, view, is_at}

@@ -12,7 +12,7 @@ use Rattle.soft_sync.specs.Exchanges.{Request}
 use Rattle.soft_sync.specs.Words.{path_of}
 use Rattle.mt_endpoint.specs.Acts.{Act, Syncs, Answers}
 use Rattle.mt_endpoint.specs.Writing.{adds}
-use Rattle.mt_endpoint.proofs.Fronts.{Cut, first, second, cut_in_two, nothing_first, nothing_second}
+use Rattle.mt_base.proofs.Prefixes.{Cut, first, second, cut_in_two, nothing_first, nothing_second}
 use Rattle.mt_endpoint.proofs.ChannelPdus.{keep, keep-append, data_of, no_data, out, out-step, added}
 use Rattle.mt_endpoint.proofs.Words.{requests_in, answers_in, requests-append, answers-append, word, word-more, word-less}
 use Rattle.mt_endpoint.proofs.Fitting.{Fitting}

@@ -13,7 +13,7 @@ use Rattle.soft_sync.specs.Words.{path_of}
 use Rattle.mt_endpoint.specs.Acts.{Act}
 use Rattle.mt_endpoint.specs.Moving.{all_told, made_by, read_by, answer_made, answer_read, made, read, outward}
 use Rattle.mt_endpoint.specs.Holding.{is_of, channel_in, is_through}
-use Rattle.mt_endpoint.specs.World.{IsPrefixOf}
+use Rattle.mt_base.specs.Prefix.{IsPrefixOf}
 use Rattle.mt_endpoint.proofs.ChannelPdus.{of, keep-append, is_mine, out, out-step, added}
 use Rattle.mt_endpoint.proofs.Words.{word, or_none, listed-plain, listed-more, moved-none, moved-more, moved-early}
 use Rattle.mt_endpoint.proofs.Fitting.{Fits, Fitting}

@@ -19,7 +19,8 @@ use Rattle.mt_endpoint.specs.Channels.{table, sent, is_closed}
 use Rattle.mt_endpoint.specs.Moving.{all_told, made_by, inward, outward}
 use Rattle.mt_endpoint.specs.Holding.{Held, held, only, is_of, channel_in, is_through}
 use Rattle.mt_endpoint.specs.Faults.{data_fault, release_fault, release_fault_of}
-use Rattle.mt_endpoint.specs.World.{IsPrefixOf, sent_on}
+use Rattle.mt_base.specs.Prefix.{IsPrefixOf}
+use Rattle.mt_endpoint.specs.World.{sent_on}
 use Rattle.mt_endpoint.specs.Fitting.{HasLeft}
 use Rattle.mt_endpoint.specs.Meeting.{Meet}
 use Rattle.mt_endpoint.proofs.ChannelPdus.{of, is_mine, brings_to, pieces, pieces-append, pieces-of, out}

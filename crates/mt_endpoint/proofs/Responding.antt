@@ -26,7 +26,7 @@ use Rattle.mt_endpoint.specs.World.{hears, heard_in}
 use Rattle.mt_endpoint.specs.Alone.{IsAct, EndOfActs, IsDue}
 use Rattle.mt_endpoint.specs.Orders.{is_among, told_by, creation, answers_of, requests_told, AnswersFit}
 use Rattle.mt_endpoint.specs.Meeting.{Meet, Comes}
-use Rattle.mt_endpoint.proofs.Fronts.{Cut, first, second, cut_in_two}
+use Rattle.mt_base.proofs.Prefixes.{Cut, first, second, cut_in_two}
 use Rattle.mt_endpoint.proofs.Asking.{neither}
 use Rattle.mt_endpoint.proofs.Known.{AllOf, OpenHas, all_after, all_later, due_of, among-append, or_last, or_front}
 use Rattle.mt_endpoint.proofs.Creating.{told-append, data_tells, heard_fine, channels_are, known_told, counted, fresh, ids_said, told_known}

@@ -21,8 +21,9 @@ use Rattle.mt_endpoint.specs.Tunnels.{same_kind}
 use Rattle.mt_endpoint.specs.Moving.{all_told, made_by, outward}
 use Rattle.mt_endpoint.specs.Holding.{is_through}
 use Rattle.mt_endpoint.specs.Writing.{spoken, carried}
-use Rattle.mt_endpoint.specs.World.{IsPrefixOf, IsPickOf, none, taken, passed, hears, draws, sent_on}
-use Rattle.mt_endpoint.proofs.Fronts.{front-append, front-trans, front-at, front-behind, nothing_first}
+use Rattle.mt_base.specs.Prefix.{IsPrefixOf, IsPickOf, none, taken, passed}
+use Rattle.mt_endpoint.specs.World.{hears, draws, sent_on}
+use Rattle.mt_base.proofs.Prefixes.{front-append, front-trans, front-at, front-behind, nothing_first}
 use Rattle.mt_endpoint.proofs.ChannelPdus.{spoken_pdus, spoken_pdus-append, carried_pdus, carried_pdus-append, keep, keep-append, of, is_mine, data_of, pieces, pieces-append, pieces-of, out}
 use Rattle.mt_endpoint.proofs.Fitting.{Fitting}
 use Rattle.mt_endpoint.proofs.Items.{is_at}

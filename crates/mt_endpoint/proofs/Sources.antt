@@ -19,7 +19,7 @@ use Rattle.mt_endpoint.specs.Holding.{channel_in}
 use Rattle.mt_endpoint.specs.Writing.{Into, on_path, closing, create_request, told_of, told_first, unless, DENIED, is_full_for, types_of, create_code, reply, adds, on_main, spoken}
 use Rattle.mt_endpoint.specs.Alone.{IsAct, EndOfActs, IsDue}
 use Rattle.mt_endpoint.specs.Orders.{EachMay}
-use Rattle.mt_endpoint.specs.World.{IsPrefixOf}
+use Rattle.mt_base.specs.Prefix.{IsPrefixOf}
 use Rattle.mt_endpoint.proofs.Each.{each-append}
 
 -- why an act writes a frame, data apart

@@ -13,7 +13,8 @@ use Rattle.mt_endpoint.specs.Moving.{all_told, read_by, answer_made, inward}
 use Rattle.mt_endpoint.specs.Holding.{Held, held, only, channel_of}
 use Rattle.mt_endpoint.specs.Writing.{spoken, carried}
 use Rattle.mt_endpoint.specs.Faults.{is_moved, release_fault}
-use Rattle.mt_endpoint.specs.World.{IsStep, IsPrefixOf, IsPickOf, fault_of, hears, draws}
+use Rattle.mt_base.specs.Prefix.{IsPrefixOf, IsPickOf}
+use Rattle.mt_endpoint.specs.World.{IsStep, fault_of, hears, draws}
 
 -- a PDU that is let go is the first that is held for its channel, which is not closed and whose word is read
 pub record IsDue (role : Role) (t : Trace Act) (kind : Kind) (pdu : Pdu) : Type 0 where

@@ -6,7 +6,8 @@ use Rattle.mt_base.specs.Trace.{Trace}
 use Rattle.mt_endpoint.specs.Acts.{Act, Heard, TunnelAsked, TunnelAnswered, Spoken}
 use Rattle.mt_endpoint.specs.Said.{Said, Capable, Creates, Created, Brings, Ends, Moves, Moved, said}
 use Rattle.mt_endpoint.specs.Writing.{spoken}
-use Rattle.mt_endpoint.specs.World.{IsPrefixOf, hears}
+use Rattle.mt_base.specs.Prefix.{IsPrefixOf}
+use Rattle.mt_endpoint.specs.World.{hears}
 use Rattle.mt_endpoint.specs.Alone.{EndOfActs}
 
 pub record Meet (role : Role) (here there : Trace Act) : Type 0 where

@@ -7,6 +7,7 @@ use Rattle.mt_base.specs.declared.kinds.Role.{Role}
 use Rattle.mt_base.specs.declared.kinds.Role.TheVariants.{Server, Client}
 use Rattle.mt_base.specs.Ends.{other}
 use Rattle.mt_base.specs.Trace.{Trace, Start, ◌▷◌}
+use Rattle.mt_base.specs.Prefix.{IsPrefixOf, IsPickOf}
 use Rattle.tunnel_cookies.specs.Entries.{IsVerdict, entry_of}
 use Rattle.dvc_pdus.specs.Value.{IsName}
 use Rattle.dvc_channels.specs.Acts as channels
@@ -20,16 +21,6 @@ use Rattle.mt_endpoint.specs.Moving.{outward, made, made_by, all_told}
 use Rattle.mt_endpoint.specs.Writing.{spoken, carried}
 use Rattle.mt_endpoint.specs.Faults.{main_fault, tunnel_fault}
 use Rattle.mt_endpoint.specs.Growing.{grown}
-
--- xs is the front of ys
-abbrev pub IsPrefixOf : {A : Type 0} → List A → List A → Type 0
-IsPrefixOf {A} xs ys = (rest : List A) × (ys ≡ xs ++ rest)
-
--- some of ys, in their order
-pub data IsPickOf {A : Type 0} : List A → List A → Type 0 where
-  none : IsPickOf [] []
-  taken : (x : A) (xs ys : List A) → IsPickOf xs ys → IsPickOf (x ∷ xs) (x ∷ ys)
-  passed : (x : A) (xs ys : List A) → IsPickOf xs ys → IsPickOf xs (x ∷ ys)
 
 -- an end is made first, and once
 abbrev pub is_begun : Trace Act → Bool

@@ -6,4 +6,4 @@ pub mod ScriptLines
 pub mod LineLaws
 pub mod Spellings
 pub mod Meanings
-pub mod WholeTexts
+pub mod OneAnswer

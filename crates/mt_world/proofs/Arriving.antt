@@ -12,7 +12,7 @@ use Rattle.mt_world.specs.Net.{at, acts_of}
 use Rattle.mt_world.specs.Play.{all_taken, played}
 use Rattle.mt_world.proofs.Outgoing.{PduLaws}
 use Rattle.mt_world.proofs.Safety.{given-written, arrived_one_way}
-use Rattle.mt_world.proofs.Hands.{past-handed_out}
+use Rattle.mt_world.proofs.HandingOut.{past-handed_out}
 use Rattle.mt_world.proofs.Sides.{server-all_taken, client-all_taken}
 use Rattle.mt_world.proofs.PlayedNet.{IsGood, arrives, main_good}
 

@@ -9,8 +9,8 @@ use Rattle.dvc_pdus.specs.Value.{Pdu, IsPdu, spelled}
 use Rattle.dvc_pdus.specs.Reading.{reading}
 use Rattle.mt_world.specs.Frames.{framed, frame_of, read_pdu, IsSpoken}
 use Rattle.mt_world.specs.Acts.{Entry, Made, Opened, Sent, MainIn, MainOut, Took, Past, with_byte, with_frame, past, reads, taken}
-use Rattle.mt_world.specs.Net.{IsPrefixOf}
-use Rattle.mt_world.proofs.Fronts.{front-trans, front-same, front-append}
+use Rattle.mt_base.specs.Prefix.{IsPrefixOf}
+use Rattle.mt_base.proofs.Prefixes.{front-trans, front-same, front-append}
 
 -- the PDUs so far, and the bytes of a frame that is under way
 abbrev pub Heard : Type 0

@@ -1,9 +1,8 @@
 pub mod Steps
 pub mod ReadBytes
-pub mod Hands
+pub mod HandingOut
 pub mod Names
 pub mod Sides
-pub mod Fronts
 pub mod Hearing
 pub mod Messages
 pub mod Outgoing

@@ -31,7 +31,7 @@ use Rattle.mt_world.proofs.Names.{no_cause, when_not, name_from_no_fault}
 use Rattle.mt_world.proofs.ReadBytes.{names-reads}
 use Rattle.mt_world.proofs.Outgoing.{PduLaws, end_sound}
 use Rattle.mt_world.proofs.SpelledBytes.{frames_bytes}
-use Rattle.mt_world.proofs.Hands.{given-handed_out, taken-handed_out}
+use Rattle.mt_world.proofs.HandingOut.{given-handed_out, taken-handed_out}
 use Rattle.mt_world.proofs.Sides.{server-all_taken, client-all_taken}
 
 -- Both sides are ends, and all that left one came to the other.

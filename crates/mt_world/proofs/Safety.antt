@@ -9,9 +9,9 @@ use Rattle.dvc_pdus.specs.Value.{Pdu}
 use Rattle.mt_world.specs.Frames.{framed, frame_of}
 use Rattle.mt_world.specs.Acts.{Entry, Act, Made, Opened, Sent, MainIn, MainOut, Took, Began, Opens, Sends, Reads, Past, past, with_byte, with_frame, written, outgoing, adds, given, taken, sent, delivered, message_in, reads}
 use Rattle.mt_world.specs.Ends.{EndTrace}
-use Rattle.mt_world.specs.Net.{IsPrefixOf}
+use Rattle.mt_base.specs.Prefix.{IsPrefixOf}
 use Rattle.mt_world.proofs.Steps.{written-act}
-use Rattle.mt_world.proofs.Fronts.{front-same, front-trans, front-flat_map, front-next, front-at}
+use Rattle.mt_base.proofs.Prefixes.{front-same, front-trans, front-flat_map, front-next, front-at}
 use Rattle.mt_world.proofs.Hearing.{Heard, hear, heard-past, hears-grow, hear-written}
 use Rattle.mt_world.proofs.Messages.{messages_in, delivered-reads, sent-outgoing}
 use Rattle.mt_world.proofs.Outgoing.{PduLaws, end_sound}

@@ -3,6 +3,7 @@ use Rattle.std.specs.Prelude.{◌≡◌, ℕ, List, ◌++◌}
 use Rattle.mt_base.specs.declared.kinds.Role.{Role}
 use Rattle.mt_base.specs.declared.kinds.Role.TheVariants.{Server, Client}
 use Rattle.mt_base.specs.Trace.{Trace, Start, ◌▷◌}
+use Rattle.mt_base.specs.Prefix.{IsPrefixOf}
 use Rattle.mt_world.specs.Acts.{Entry, Act, past, given, taken, sent, delivered}
 use Rattle.mt_world.specs.Ends.{EndTrace}
 
@@ -17,10 +18,6 @@ at Client (w ▷ (Client, entry)) = at Client w ▷ entry
 -- the acts of one side
 abbrev pub acts_of : Role → Trace (Role × Entry) → Trace Act
 acts_of role w = (past role (at role w)).acts
-
--- xs is the front of ys
-abbrev pub IsPrefixOf : {A : Type 0} → List A → List A → Type 0
-IsPrefixOf {A} xs ys = (rest : List A) × (ys ≡ xs ++ rest)
 
 -- both sides are ends, and each took the front of what left the other
 pub record Net (w : Trace (Role × Entry)) : Type 0 where

@@ -12,7 +12,7 @@ use Rattle.carrier.specs.Faithful.{HasRoom}
 use Rattle.carrier.specs.TwoLinks.{Enough, Margins, Net}
 use Rattle.udp1_core.specs.MachineView.{Machine, link_layout}
 use Rattle.udp1_core.specs.FirstLink.{FirstLink, JoinedMachines, link_layouts}
-use Rattle.udp1_core.proofs.Whole.{is_layout}
+use Rattle.udp1_core.proofs.FirstIsLayout.{is_layout}
 
 -- the layout of one end leaves room for its parts
 pub has_room : (own peer version : ℕ) → HasRoom (link_layout own peer version)

@@ -2,7 +2,7 @@
 use Rattle.std.proofs.Common.{◌≡◌, ℕ, Bool, ◌++◌, Option, Some, None, option_map, append-nil, sym, arith}
 use Rattle.carrier.specs.Layout.{Telling, Carried}
 use Rattle.link_machine.specs.WireLaw.{IsWire, bytes_of, numbers_of}
-use Rattle.udp1_core.proofs.Whole.{is_layout}
+use Rattle.udp1_core.proofs.FirstIsLayout.{is_layout}
 use Rattle.udp1_core.proofs.Sizes.{short_enough}
 use Rattle.udp1_core.proofs.Spellings.{part_behind}
 use Rattle.udp1_core.specs.FirstLayout.{first_wire}

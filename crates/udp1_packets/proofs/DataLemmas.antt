@@ -11,7 +11,7 @@ use Rattle.udp1_packets.specs.Value.{DataBody, FecBody}
 use Rattle.udp1_packets.specs.Layout.{IsBytes, aoa_fields}
 use Rattle.udp1_packets.specs.Reading.{number_where, data_at, fec_at}
 use Rattle.udp1_packets.specs.Faults.{Cut, RefusedData, coded_cut, start_cut, range_cut, index_cut, after_index_cut}
-use Rattle.mt_base.proofs.Fronts.{left_at as at}
+use Rattle.mt_base.proofs.FrontFields.{left_at as at}
 use Rattle.udp1_packets.proofs.Pieces.{number_reads, number_cut, block_reads, block_cut, cut_at}
 
 -- ---- a number that may be there

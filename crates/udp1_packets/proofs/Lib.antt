@@ -6,7 +6,7 @@ pub mod SynLemmas
 pub mod VectorLemmas
 pub mod DataLemmas
 pub mod ToldLemmas
-pub mod WholeLemmas
+pub mod Decided
 pub mod Theorems
 pub mod Parts
 pub mod ByteLemmas

@@ -12,7 +12,7 @@ use Rattle.udp1_packets.specs.Value.{Extended}
 use Rattle.udp1_packets.specs.Layout.{is_valid, IsBytes, IsVersion, IsBlock, IsExtended, extension_fields}
 use Rattle.udp1_packets.specs.Reading.{is_version, version_at, extension_at, extended_at}
 use Rattle.udp1_packets.specs.Faults.{block_bytes, Cut, RefusedExtension, flags_cut, version_cut, version_wrong, hash_cut}
-use Rattle.mt_base.proofs.Fronts.{left_at as at}
+use Rattle.mt_base.proofs.FrontFields.{left_at as at}
 use Rattle.udp1_packets.proofs.Pieces.{number_reads, number_cut, cut_at, block32_reads, block32_cut, block32_or}
 
 -- ---- the version

@@ -7,8 +7,8 @@ use Rattle.std.proofs.lemmas.List.Elements.{All-cons, All-nil, All-head, All-tai
 use Rattle.byteorder.specs.Endian.{big_bytes}
 use Rattle.mt_base.specs.Reading.{Left, block, big}
 use Rattle.mt_base.proofs.Fields.{Begins, big_or, block_or, as_err}
-use Rattle.mt_base.proofs.Fronts
-use Rattle.mt_base.proofs.Fronts.{left_at as at, big_reads, big_cut}
+use Rattle.mt_base.proofs.FrontFields
+use Rattle.mt_base.proofs.FrontFields.{left_at as at, big_reads, big_cut}
 use Rattle.mt_base.proofs.Firsts.{NonePasses, first_or, first_at, none_at}
 use Rattle.carrier.specs.declared.first_layout.Refusal1.{Refusal1}
 use Rattle.carrier.specs.declared.first_layout.Refusal1.TheVariants as refusal
@@ -25,7 +25,7 @@ pub number_cut : (width n : ℕ) (rest : List ℕ) (r : Refusal1) → Cut n widt
 number_cut width n rest r fault = big_cut refusal.Short width n rest r fault
 
 pub block_cut : (count n : ℕ) (rest : List ℕ) (r : Refusal1) → Cut n count rest r → cut (block count (at n rest)) ≡ Err r
-block_cut count n rest r fault = Fronts.block_cut refusal.Short count n rest r fault
+block_cut count n rest r fault = FrontFields.block_cut refusal.Short count n rest r fault
 
 -- bytes that are there are taken, whatever they are
 pub block_reads : (count : ℕ) (xs : List ℕ) → length xs ≡ count → (n : ℕ) (rest : List ℕ) → cut (block count (at n (xs ++ rest))) ≡ Ok (xs, at (n + count) rest)

@@ -14,7 +14,7 @@ use Rattle.udp1_packets.specs.Layout.{has, IsBytes, IsMtu, IsBlock, IsSyn, block
 use Rattle.mt_base.specs.Parts.{◌>>=◌}
 use Rattle.udp1_packets.specs.Reading.{block32_at, extended_at, zeros_at, syn_with, syn_at}
 use Rattle.udp1_packets.specs.Faults.{block_bytes, Opens, RefusedMtu, RefusedExtension, RefusedSyn, initial_cut, up_wrong, down_wrong, correlation_cut, extension_wrong, padding_wrong}
-use Rattle.mt_base.proofs.Fronts.{left_at as at}
+use Rattle.mt_base.proofs.FrontFields.{left_at as at}
 use Rattle.udp1_packets.proofs.Pieces.{number_reads, number_cut, mtu_reads, mtu_answer, mtu_or, block32_reads, block32_cut, block32_or, zeros_read, zeros_wrong, Padding, all_zeros, not_all, padding_or}
 use Rattle.udp1_packets.proofs.OpeningLemmas.{extended_text, extended_reads, extended_refused, extended_or, IsExtension}
 

@@ -17,9 +17,9 @@ use Rattle.udp1_packets.specs.Layout.{IsBytes, IsPacket, Fills, Allows, Spells, 
 use Rattle.udp1_packets.specs.Reading.{packet_at, Answers}
 use Rattle.udp1_packets.specs.Faults.{Refused}
 use Rattle.udp1_packets.specs.Views.{packet_of}
-use Rattle.mt_base.proofs.Fronts.{left_at as at}
+use Rattle.mt_base.proofs.FrontFields.{left_at as at}
 use Rattle.udp1_packets.proofs.VectorLemmas.{fill_from}
-use Rattle.udp1_packets.proofs.WholeLemmas.{decided, spelled_reads, fault_answer}
+use Rattle.udp1_packets.proofs.Decided.{decided, spelled_reads, fault_answer}
 
 -- what bytes mean: what is spelled is read, each fault is the answer, and there is one of both
 pub meaning : Meaning (λ bytes. packet_at (at 0 bytes)) (λ p bytes. Spells bytes p) Refused

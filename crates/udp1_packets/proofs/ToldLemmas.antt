@@ -13,7 +13,7 @@ use Rattle.udp1_packets.specs.Value.{Body, SynBody, DataBody, FecBody, BareBody}
 use Rattle.udp1_packets.specs.Layout.{has, IsBytes, IsTold, IsBody, Fills, Allows, Choice, vector_fields, aoa_fields, body_fields}
 use Rattle.udp1_packets.specs.Reading.{data_at, fec_at, rest_at, told_at}
 use Rattle.udp1_packets.specs.Faults.{vector_bytes, RefusedVector, RefusedData, Tells, RefusedTold, vector_wrong, aoa_cut, data_wrong}
-use Rattle.mt_base.proofs.Fronts.{left_at as at}
+use Rattle.mt_base.proofs.FrontFields.{left_at as at}
 use Rattle.udp1_packets.proofs.VectorLemmas.{vector_where_reads, vector_where_refused, vector_where_or, Vectored}
 use Rattle.udp1_packets.proofs.DataLemmas.{aoa_text, IsNumber, number_where_reads, number_where_refused, number_where_or, data_reads, data_answer, fec_reads, fec_answer, Starts, starts_or, Corrects, corrects_or}
 

@@ -15,7 +15,7 @@ use Rattle.udp1_packets.specs.Layout.{IsBytes, IsVector, Fills, to_four}
 use Rattle.udp1_packets.specs.Reading.{states_to, elements_at, size_at, vector_at, vector_where}
 use Rattle.udp1_packets.specs.Faults.{vector_bytes, Cut, RefusedVector, size_cut, too_long, elements_cut, state_wrong, fill_cut}
 use Rattle.udp1_packets.proofs.States.{is_wrong, all_good, none_wrong, bad_passes, bad_from}
-use Rattle.mt_base.proofs.Fronts.{left_at as at}
+use Rattle.mt_base.proofs.FrontFields.{left_at as at}
 use Rattle.udp1_packets.proofs.Pieces.{number_reads, number_cut, block_reads, block_cut}
 
 -- ---- the size

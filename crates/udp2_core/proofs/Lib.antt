@@ -16,4 +16,4 @@ pub mod Polled
 pub mod Polls
 pub mod Dues
 pub mod Inputs
-pub mod Fronts
+pub mod WrittenFront

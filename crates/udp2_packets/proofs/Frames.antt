@@ -5,7 +5,7 @@ use Rattle.std.proofs.lemmas.Bool.{lt-ltb, le-ltb, cases_lt, ne_eqb}
 use Rattle.std.proofs.lemmas.List.{take_at, take-append-drop, length-take-le, length-drop}
 use Rattle.std.proofs.lemmas.List.Elements.{All-cons, All-head, All-tail, All-take}
 use Rattle.mt_base.proofs.Numbers.{IsBytes}
-use Rattle.mt_base.proofs.Fronts.{left_at, byte_reads}
+use Rattle.mt_base.proofs.FrontFields.{left_at, byte_reads}
 use Rattle.carrier.specs.declared.second_layout.Refusal2.TheVariants as refusal
 use Rattle.udp2_packets.specs.Layout.{prefix, exchanged, Holds}
 use Rattle.udp2_packets.specs.Faults.{IsWrongLength}

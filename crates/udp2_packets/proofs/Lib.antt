@@ -1,6 +1,6 @@
 pub mod WriterLemmas
 pub mod Pieces
 pub mod Words
-pub mod Whole
+pub mod BehindPrefix
 pub mod Frames
 pub mod Theorems

@@ -6,7 +6,7 @@ use Rattle.std.proofs.lemmas.List.{length-replicate}
 use Rattle.std.proofs.lemmas.List.Elements.{All-from_get_or}
 use Rattle.byteorder.specs.Endian.{little_bytes}
 use Rattle.mt_base.proofs.Numbers.{IsBytes}
-use Rattle.mt_base.proofs.Fronts.{left_at}
+use Rattle.mt_base.proofs.FrontFields.{left_at}
 use Rattle.mt_base.proofs.Fields.{Begins, little_or, as_err, not_both, ok_is}
 use Rattle.mt_base.proofs.Meanings.{Meaning, was_spelled, was_fault}
 use Rattle.carrier.specs.declared.second_layout.Refusal2.{Refusal2}
@@ -22,8 +22,8 @@ use Rattle.udp2_packets.specs.Reading.{is_dummy, checked, fields_at, header_at, 
 use Rattle.udp2_packets.proofs.WriterLemmas.{length-exchanged, written_is}
 use Rattle.udp2_packets.proofs.Frames
 use Rattle.udp2_packets.proofs.Frames.{exchanged_of, reading_is, reading_short, end_wrong, no_dummy, dummy, neither, framed, Frame, frame_or}
-use Rattle.udp2_packets.proofs.Whole
-use Rattle.udp2_packets.proofs.Whole.{dummy_of, header_reads, checked_unknown, checked_both, packet_reads, packet_cuts, packet_trails, Behind, behind_or}
+use Rattle.udp2_packets.proofs.BehindPrefix
+use Rattle.udp2_packets.proofs.BehindPrefix.{dummy_of, header_reads, checked_unknown, checked_both, packet_reads, packet_cuts, packet_trails, Behind, behind_or}
 
 -- ---- what is spelled is read
 

@@ -3,6 +3,6 @@ pub mod Flag
 pub mod Opened
 pub mod Machines
 pub mod Network
-pub mod Whole
+pub mod JoinedMachines
 pub mod OneLink
 pub mod Joined

@@ -1,4 +1,4 @@
-use Rattle.carrier.proofs.links.Whole.{ends, all_read, arrive, prefix, pulled_too, apart, ahead, seen_made, known_seen}
+use Rattle.carrier.proofs.links.AllCalls.{ends, all_read, arrive, prefix, pulled_too, apart, ahead, seen_made, known_seen}
 use Rattle.carrier.proofs.two_links.joined_links.Goals as goal
 
 pub returns-clause-read : goal.returns-clause-read

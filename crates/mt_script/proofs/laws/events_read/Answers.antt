@@ -1,4 +1,4 @@
-use Rattle.mt_script.proofs.WholeTexts.{events_hold, few_events, numbers_hold}
+use Rattle.mt_script.proofs.OneAnswer.{events_hold, few_events, numbers_hold}
 use Rattle.mt_script.proofs.laws.events_read.Goals as goal
 
 pub returns-clause-events : goal.returns-clause-events

@@ -1,4 +1,4 @@
-use Rattle.mt_script.proofs.WholeTexts.{some_answer, one_answer, written}
+use Rattle.mt_script.proofs.OneAnswer.{some_answer, one_answer, written}
 use Rattle.mt_script.proofs.laws.one_answer.Goals as goal
 
 pub returns-clause-some : goal.returns-clause-some

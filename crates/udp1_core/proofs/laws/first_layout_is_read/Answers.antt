@@ -1,6 +1,6 @@
 use Rattle.std.proofs.Common.{refl}
 use Rattle.udp1_core.proofs.Sizes.{short_enough}
-use Rattle.udp1_core.proofs.Whole.{is_layout}
+use Rattle.udp1_core.proofs.FirstIsLayout.{is_layout}
 use Rattle.udp1_core.proofs.laws.first_layout_is_read.Goals as goal
 
 pub returns-clause-reads : goal.returns-clause-reads

@@ -1,5 +1,5 @@
 use Rattle.mt_base.proofs.Meanings.{one_value, one_fault, never_both}
-use Rattle.udp1_packets.proofs.WholeLemmas.{decided}
+use Rattle.udp1_packets.proofs.Decided.{decided}
 use Rattle.udp1_packets.proofs.Theorems.{meaning}
 use Rattle.udp1_packets.proofs.laws.one_meaning.Goals as goal
 

@@ -1,7 +1,7 @@
 use Rattle.std.specs.Prelude.{min}
 use Rattle.mt_base.specs.declared.kinds.Role.TheVariants.{Server, Client}
 use Rattle.udp_open.proofs.links.Opened.{agrees_in}
-use Rattle.udp_open.proofs.links.Whole.{first_link, link_passed, link_pulled}
+use Rattle.udp_open.proofs.links.JoinedMachines.{first_link, link_passed, link_pulled}
 use Rattle.udp_open.proofs.joined.two_links.Goals as goal
 
 pub returns-clause-agree : goal.returns-clause-agree

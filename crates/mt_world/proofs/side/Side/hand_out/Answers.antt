@@ -1,7 +1,7 @@
 use Rattle.std.proofs.Common.{◌≡◌, sym, ◌∙◌}
 use Rattle.mt_world.specs.Acts.{past, given, took, waiting}
 use Rattle.mt_world.proofs.Steps.{on_ok}
-use Rattle.mt_world.proofs.Hands.{waiting_is, hands_all_out}
+use Rattle.mt_world.proofs.HandingOut.{waiting_is, hands_all_out}
 use Rattle.mt_world.proofs.side.Side.hand_out.Goals as goal
 
 pub returns : goal.returns

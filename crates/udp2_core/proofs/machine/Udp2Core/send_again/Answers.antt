@@ -8,7 +8,7 @@ use Rattle.udp2_core.specs.SecondLayout.{second_layout}
 use Rattle.udp2_core.specs.ReceiverView.{Hears, datagram_with}
 use Rattle.udp2_core.specs.SenderView.{Speaks}
 use Rattle.udp2_core.specs.MachineView.{again_load}
-use Rattle.udp2_core.proofs.Fronts.{front_is, carried_is, is_carried, numbers_of, part_back}
+use Rattle.udp2_core.proofs.WrittenFront.{front_is, carried_is, is_carried, numbers_of, part_back}
 use Rattle.udp2_core.proofs.machine.Udp2Core.send_again.Goals as goal
 
 pub returns-clause-bytes : goal.returns-clause-bytes

@@ -6,7 +6,7 @@ use Rattle.udp2_core.specs.SecondLayout.{second_layout}
 use Rattle.udp2_core.specs.ReceiverView.{Hears, datagram_with}
 use Rattle.udp2_core.specs.SenderView.{Speaks, timer_begun}
 use Rattle.udp2_core.specs.MachineView.{fresh_load}
-use Rattle.udp2_core.proofs.Fronts.{front_is, carried_is, is_carried}
+use Rattle.udp2_core.proofs.WrittenFront.{front_is, carried_is, is_carried}
 use Rattle.udp2_core.proofs.machine.Udp2Core.send_fresh.Goals as goal
 
 pub returns-clause-bytes : goal.returns-clause-bytes

@@ -2,7 +2,7 @@ use Rattle.std.proofs.Common.{◌≡◌, take, drop, if◌then◌else◌, Some, 
 use Rattle.carrier.specs.Due.{is_pressing}
 use Rattle.udp2_core.specs.SecondLayout.{second_layout}
 use Rattle.udp2_core.specs.ReceiverView.{Hears, datagram_with}
-use Rattle.udp2_core.proofs.Fronts.{front_is, told_where}
+use Rattle.udp2_core.proofs.WrittenFront.{front_is, told_where}
 use Rattle.udp2_core.proofs.machine.Udp2Core.tell.Goals as goal
 
 pub returns-clause-bytes : goal.returns-clause-bytes

@@ -7,7 +7,7 @@ use Rattle.std.proofs.lemmas.List.Elements.{All-nil}
 use Rattle.mt_base.specs.Reading.{Left}
 use Rattle.mt_base.specs.Writing.{joined}
 use Rattle.mt_base.proofs.Numbers.{IsBytes}
-use Rattle.mt_base.proofs.Fronts.{left_at, little_reads}
+use Rattle.mt_base.proofs.FrontFields.{left_at, little_reads}
 use Rattle.carrier.specs.declared.second_layout.Refusal2.{Refusal2}
 use Rattle.carrier.specs.declared.second_layout.Refusal2.TheVariants as refusal
 use Rattle.udp2_packets.specs.Value.{Ack, Vector, Telling, NoTelling, AckTelling, VectorTelling, Body, NoBody, DataBody, DummyBody, Packet}

@@ -1,6 +1,11 @@
 -- Lists that are the front of another or picked from another, and lists cut in two.
-use Rattle.std.proofs.Common.{◌≡◌, List, [], ◌∷◌, ◌++◌, refl, sym, ap, subst, ◌∙◌, append_assoc, append-nil}
-use Rattle.mt_endpoint.specs.World.{IsPrefixOf, IsPickOf, none, taken, passed}
+use Rattle.std.proofs.Common.{◌≡◌, ℕ, List, [], ◌∷◌, ◌++◌, length, take, drop, refl, sym, ap, subst, ◌∙◌, append_assoc, append-nil}
+use Rattle.std.specs.List.{flat_map}
+use Rattle.std.proofs.lemmas.Grind.{flat_map-append}
+use Rattle.std.proofs.lemmas.List.{take-append-drop, drop_at}
+use Rattle.mt_base.specs.Prefix.{IsPrefixOf, IsPickOf, none, taken, passed}
+
+-- ---- fronts
 
 pub front-same : {A : Type 0} (xs : List A) → IsPrefixOf xs xs
 front-same xs = ([], sym (append-nil xs))
@@ -16,6 +21,19 @@ front-at xs vs ys ws same also h = (h.0, sym also ∙ h.1 ∙ ap (λ x. x ++ h.0
 
 pub front-behind : {A : Type 0} (zs xs ys : List A) → IsPrefixOf xs ys → IsPrefixOf (zs ++ xs) (zs ++ ys)
 front-behind zs xs ys h = (h.0, ap (λ y. zs ++ y) h.1 ∙ sym (append_assoc zs xs h.0))
+
+-- what is made of each element of a front is a front
+pub front-flat_map : {A B : Type 0} (f : A → List B) (xs ys : List A) → IsPrefixOf xs ys → IsPrefixOf (flat_map f xs) (flat_map f ys)
+front-flat_map f xs ys h = (flat_map f h.0, ap (flat_map f) h.1 ∙ flat_map-append f xs h.0)
+
+-- a front of a list, and a front of the rest behind it
+pub front-next : {A : Type 0} (n : ℕ) (xs ys : List A) → IsPrefixOf xs ys → IsPrefixOf (xs ++ take n (drop (length xs) ys)) ys
+front-next n xs ys h =
+    let rest : drop (length xs) ys ≡ h.0 = ap (drop (length xs)) h.1 ∙ drop_at xs h.0 (length xs) refl in (
+      drop n h.0,
+      h.1 ∙ ap (λ x. xs ++ x) (sym (take-append-drop n h.0)) ∙ sym (append_assoc xs (take n h.0) (drop n h.0))
+          ∙ ap (λ x. xs ++ take n x ++ drop n h.0) (sym rest),
+    )
 
 -- two lists that join to nothing
 pub nothing_first : {A : Type 0} (xs ys : List A) → xs ++ ys ≡ [] → xs ≡ []

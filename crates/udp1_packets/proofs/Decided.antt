@@ -15,7 +15,7 @@ use Rattle.mt_base.specs.Parts.{◌>>=◌}
 use Rattle.udp1_packets.specs.Reading.{syn_at, opening_at, told_at, marks_in, body_at, packet_at}
 use Rattle.udp1_packets.specs.Faults.{RefusedSyn, RefusedTold, Headed, Refused, ack_cut, window_cut, word_cut, with_data, syn_wrong, told_wrong}
 use Rattle.udp1_packets.proofs.Words.{syn_word, data_word, fec_word, bare_word, no_fec, with_fec, syn_is, data_is, fec_is, bare_is, under_mask}
-use Rattle.mt_base.proofs.Fronts.{left_at as at}
+use Rattle.mt_base.proofs.FrontFields.{left_at as at}
 use Rattle.udp1_packets.proofs.Pieces.{number_reads, number_cut}
 use Rattle.udp1_packets.proofs.SynLemmas.{syn_reads, syn_answer, syn_or, IsOpening}
 use Rattle.udp1_packets.proofs.ToldLemmas
