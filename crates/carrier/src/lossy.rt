@@ -48,7 +48,7 @@ pub trait Post {
             stands self.new (t ▷ Posted bytes.now)) }
         ensures law { (t : Trace Entry) → law self.new t ↔ law self.old t }
         ensures left { left self.new ≡ left self.old }
-        ensures load { load self.new ≤ load self.old + 1 }
+        ensures load { OnOk result (load self.new ≡ load self.old + 1) }
         ensures state { condition self.new ≡ condition self.old }
         ensures unchanged { OnErr result (self.new ≡ self.old) };
 
@@ -61,7 +61,7 @@ pub trait Post {
         ensures trace { (t : Trace Entry) → stands self.old t →
             stands self.new (t ▷ Next (option_map (λ n. take n out.new) result)) }
         ensures law { (t : Trace Entry) → law self.new t ↔ law self.old t }
-        ensures load { load self.new ≤ load self.old }
+        ensures load { load self.new ≡ load self.old }
         ensures state { condition self.new ≡ condition self.old };
 
     /// Takes a datagram that came at this moment, which is below 2^62.

@@ -76,7 +76,7 @@ pub trait Carrier {
             stands self.new (t ▷ Gave bytes.now)) }
         ensures law { (t : Trace Entry) → law self.new t ↔ law self.old t }
         ensures left { left self.new ≡ left self.old }
-        ensures load { load self.new ≤ load self.old + length bytes.now }
+        ensures load { OnOk result (load self.new ≡ load self.old + length bytes.now) }
         ensures state { condition self.new ≡ condition self.old }
         ensures unchanged { OnErr result (self.new ≡ self.old) };
 
@@ -90,12 +90,12 @@ pub trait Carrier {
         ensures trace { (t : Trace Entry) → stands self.old t →
             stands self.new (t ▷ Pulled (length out.old) (take result out.new)) }
         ensures law { (t : Trace Entry) → law self.new t ↔ law self.old t }
-        ensures load { load self.new ≤ load self.old }
+        ensures load { load self.new ≡ load self.old }
         ensures state { condition self.new ≡ condition self.old };
 
     /// How many bytes were given and are not known to have come.
     fn queued(&self) -> usize
-        ensures { load self.now ≤ result };
+        ensures { result ≡ load self.now };
 
     /// The least moment, from the last one on, at which `poll` would send a datagram or close the
     /// link if no other call came; `None` where there is none.

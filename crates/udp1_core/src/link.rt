@@ -164,7 +164,7 @@ impl Carrier for Udp1Core {
         ensures law { (t : Trace Entry) →
             Faithful (layout_of self.new) t ↔ Faithful (layout_of self.old) t }
         ensures left { left_of self.new.receiver.inbox ≡ left_of self.old.receiver.inbox }
-        ensures load { queued_of self.new.sender.outbox ≤ queued_of self.old.sender.outbox + length bytes.now }
+        ensures load { OnOk result (queued_of self.new.sender.outbox ≡ queued_of self.old.sender.outbox + length bytes.now) }
         ensures state { condition_of self.new ≡ condition_of self.old }
         ensures unchanged { OnErr result (self.new ≡ self.old) }
         ensures layout { layout_of self.new ≡ layout_of self.old }
@@ -182,7 +182,7 @@ impl Carrier for Udp1Core {
             Stands self.new (t ▷ Pulled (length out.old) (take result out.new)) }
         ensures law { (t : Trace Entry) →
             Faithful (layout_of self.new) t ↔ Faithful (layout_of self.old) t }
-        ensures load { queued_of self.new.sender.outbox ≤ queued_of self.old.sender.outbox }
+        ensures load { queued_of self.new.sender.outbox ≡ queued_of self.old.sender.outbox }
         ensures state { condition_of self.new ≡ condition_of self.old }
         ensures layout { layout_of self.new ≡ layout_of self.old }
     {
