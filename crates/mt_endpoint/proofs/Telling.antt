@@ -23,7 +23,7 @@ use Rattle.mt_endpoint.specs.Faults.{Why, when, Unexpected, is_capable, said_fau
 use Rattle.mt_endpoint.specs.World.{is_begun, begins}
 use Rattle.mt_endpoint.specs.Alone.{IsAct, EndOfActs, IsDue, IsAnswer}
 use Rattle.mt_endpoint.specs.Orders.{EachMay, capable, MayTell}
-use Rattle.mt_endpoint.specs.World.{IsPrefixOf}
+use Rattle.mt_base.specs.Prefix.{IsPrefixOf}
 use Rattle.mt_endpoint.proofs.Asking.{or_both}
 use Rattle.mt_endpoint.proofs.Sources.{Source, begun, opens, asks_for, tells, syncs, closes, answers, heard_capable, heard_creates, heard_ends, released_ends, AllBring, Adds, nothing, frame, sends, adds_what, each_written}
 
