@@ -1,0 +1,6 @@
+pub mod Streams
+pub mod Calls
+pub mod Stops
+pub mod Law
+pub mod Links
+pub mod Example

@@ -1,0 +1,40 @@
+//! Laws of the calls of an end.
+
+ghost use Rattle.std.specs.Prelude.{◌≡◌, ◌++◌, ℕ, List, Option};
+ghost use Rattle.std.specs.List.{fold};
+ghost use Rattle.mt_base.specs.declared.kinds.Kind.{Kind};
+ghost use Rattle.mt_base.specs.declared.kinds.Role.{Role};
+ghost use Rattle.mt_base.specs.Trace.{Trace};
+ghost use Rattle.tunnel_cookies.specs.Entries.{IsVerdict};
+ghost use Rattle.tunnel_cookies.specs.declared.entry.Entry.{Entry as Issued};
+ghost use Rattle.mt_endpoint.specs.Tunnels.{link_of};
+ghost use Rattle.end_calls.specs.Streams.{Past, with_tunnel, verdict_by};
+ghost use Rattle.end_calls.specs.Calls.{Entry, after_bytes};
+ghost use Rattle.end_calls.specs.Example.{Shows};
+ghost use Rattle.end_calls.specs.Law.{EndTrace, IsWithin};
+
+/// A client by hand, worked out on the definitions byte by byte: capabilities that come in two
+/// pieces, a tunnel that is asked for and opens, and a byte that is no frame.
+pub fn a_client_in_bytes()
+    ensures { Shows }
+{}
+
+/// What is read of a stream doesn't depend on how it is cut into calls.
+pub fn cuts_do_not_matter()
+    ensures main { (role : Role) (p : Past) (xs ys : List ℕ)
+        → after_bytes role p (xs ++ ys) ≡ after_bytes role (after_bytes role p xs) ys }
+    ensures tunnel { (role : Role) (p : Past) (xs ys : List ℕ)
+        → fold (with_tunnel role) p (xs ++ ys) ≡ fold (with_tunnel role) (fold (with_tunnel role) p xs) ys }
+{}
+
+/// The verdict on a create request is the one that the table of issued requests gives (MS-RDPEMT
+/// section 3.2.5.1).
+pub fn verdicts_are_of_the_table()
+    ensures { (kind : Kind) (cookie : List ℕ) (entry : Option Issued)
+        → IsVerdict (link_of kind) kind cookie entry (verdict_by kind cookie entry) }
+{}
+
+/// What waits on the main stream, and what is held of each tunnel, keeps its limits.
+pub fn queues_keep_their_limits()
+    ensures { (role : Role) (t : Trace Entry) → EndTrace role t → IsWithin role t }
+{}
