@@ -3,4 +3,5 @@ pub mod Calls
 pub mod Stops
 pub mod Law
 pub mod Links
+pub mod Net
 pub mod Example

@@ -1,14 +1,15 @@
--- The calls that an end makes of its links. Each tunnel PDU that it writes is given, or posted, by a
--- call of its own, as soon as the frame, PDU or step that writes it is read or made.
+-- The calls that an end makes of its links. What a frame, a PDU or a step writes into a tunnel is given
+-- to its link by one call, as soon as it is read or made; but a message goes in PDU by PDU. A lossy link
+-- has each PDU posted by itself.
 use Rattle.std.specs.Prelude.{ℕ, Bool, not, ◌&&◌, ◌||◌, List, [], ◌∷◌, take, option_map, Option, Some, None, if◌then◌else◌}
-use Rattle.std.specs.List.{fold}
+use Rattle.std.specs.List.{fold, flat_map}
 use Rattle.mt_base.specs.declared.kinds.Kind.{Kind}
 use Rattle.mt_base.specs.declared.kinds.Kind.TheVariants.{Reliable, Lossy}
 use Rattle.mt_base.specs.declared.kinds.Role.{Role}
 use Rattle.mt_base.specs.Trace.{Trace, Start, ◌▷◌}
 use Rattle.carrier.specs.Entries.{Gave, In, Polled, Pulled, Posted, Next}
 use Rattle.carrier.specs.Entries as link
-use Rattle.mt_endpoint.specs.Acts.{Act, Drawn}
+use Rattle.mt_endpoint.specs.Acts.{Act, Sends, Drawn}
 use Rattle.mt_endpoint.specs.Tunnels.{is_attached, same_kind}
 use Rattle.mt_endpoint.specs.Writing.{tunneled}
 use Rattle.end_calls.specs.Streams.{Past, with_main, written}
@@ -22,8 +23,22 @@ abbrev pub gives : Kind → Trace link.Entry → Drawn → Trace link.Entry
 gives Reliable t drawn = t ▷ Gave (tunneled drawn)
 gives Lossy t drawn = t ▷ Posted (tunneled drawn)
 
+-- bytes, where there are any
+abbrev pub gives_bytes : List ℕ → Trace link.Entry → Trace link.Entry
+gives_bytes [] t = t
+gives_bytes (byte ∷ bytes) t = t ▷ Gave (byte ∷ bytes)
+
+abbrev pub gives_joined : Kind → List Drawn → Trace link.Entry → Trace link.Entry
+gives_joined Reliable drawn t = gives_bytes (flat_map tunneled drawn) t
+gives_joined Lossy drawn t = fold (gives Lossy) t drawn
+
 abbrev pub gives_all : Kind → Role → Past → Past → Trace link.Entry → Trace link.Entry
-gives_all kind role p q t = fold (gives kind) t (written kind role p q)
+gives_all kind role p q t = gives_joined kind (written kind role p q) t
+
+-- what a step of the end's own writes
+abbrev pub gives_own : Kind → Act → List Drawn → Trace link.Entry → Trace link.Entry
+gives_own kind (Sends id message) drawn t = fold (gives kind) t drawn
+gives_own kind act drawn t = gives_joined kind drawn t
 
 -- frame by frame; memory may be wanting at the last one
 abbrev pub by_bytes : Kind → Role → Past → List ℕ → Option (Trace Act) → Trace link.Entry → Trace link.Entry
@@ -80,7 +95,7 @@ polls kind made now out t = if same_kind kind made then t ▷ Polled now out els
 -- all calls of the link of this kind
 abbrev pub linked : Kind → Role → Trace Entry → Trace link.Entry
 linked kind role Start = Start
-linked kind role (t ▷ Own act) = gives_all kind role (past role t) (past role (t ▷ Own act)) (linked kind role t)
+linked kind role (t ▷ Own act) = gives_own kind act (written kind role (past role t) (past role (t ▷ Own act))) (linked kind role t)
 linked kind role (t ▷ MainIn offered count load lack) =
     by_bytes kind role (past role t) (take (read_count count lack) offered) (option_map (λ (l : ℕ × Trace Act). l.1) lack) (linked kind role t)
 linked kind role (t ▷ MainOut room bytes) = linked kind role t
