@@ -93,11 +93,11 @@ typed_or datagram k d bytes type h good = by_word (little_or 2 bytes good)
     known = elim type [ inl e ↦ inl e.1 | inr e ↦ inr e.1 ]
 
     by_behind : (front rest : List ℕ) → bytes ≡ front ++ rest → Behind d (front ++ rest) → Meant datagram
-    by_behind front rest is (Whole.packet p good_p d_is text_is) =
+    by_behind front rest is (BehindPrefix.packet p good_p d_is text_is) =
         inl (p, (good_p, subst (λ n. Holds datagram n (text p)) (sym (kind_of p.body d k d_is type)) (subst (λ t. Holds datagram k t) (is ∙ text_is) h)))
-    by_behind front rest is (Whole.field_cut p r good_p d_is c) =
+    by_behind front rest is (BehindPrefix.field_cut p r good_p d_is c) =
         inr (r, Faults.field_cut p (front ++ rest) good_p (subst (λ n. Holds datagram n (front ++ rest)) (sym (kind_of p.body d k d_is type)) (subst (λ t. Holds datagram k t) is h)) c)
-    by_behind front rest is (Whole.trailing p b others good_p none d_is text_is) =
+    by_behind front rest is (BehindPrefix.trailing p b others good_p none d_is text_is) =
         let k_is : k ≡ 0 = sym (kind_of p.body d k (ap dummy_of none ∙ sym d_is) type) ∙ ap kind none in
         inr (_, Faults.trailing p b others good_p none (subst (λ n. Holds datagram n (text p ++ (b ∷ others))) k_is (subst (λ t. Holds datagram k t) (is ∙ text_is) h)) refl)
 
