@@ -1,28 +1,13 @@
 -- The flags that a machine tells.
-use Rattle.std.proofs.Common.{◌≡◌, ℕ, zero, suc, ◌+◌, ◌-◌, ◌<◌, ◌≤◌, ◌&&◌, Bool, true, false, List, [], ◌∷◌, ◌++◌, drop, length, get_or, max, take, replicate, refl, sym, ap, ap₂, ◌∙◌, arith}
+use Rattle.std.proofs.Common.{◌≡◌, ℕ, zero, suc, ◌+◌, ◌-◌, ◌<◌, ◌≤◌, ◌&&◌, Bool, true, false, List, [], ◌∷◌, length, max, take, replicate, refl, sym, ap, ap₂, ◌∙◌, arith}
 use Rattle.std.proofs.lemmas.List.{length-replicate, take-replicate}
-use Rattle.std.proofs.Math.Seq.{take-append_seam}
 use Rattle.coded_vector.specs.Written.{coded_of}
 use Rattle.mt_windows.specs.Noted.{is_seen}
 use Rattle.carrier.specs.Layout.{Upto}
 use Rattle.udp2_packets.specs.Value.{AckTelling}
 use Rattle.udp2_core.specs.SecondLayout.{all_seen, flags_from, low, packet_telling}
 
--- flags that say of each number whether it was received are those that are told
-pub flags_are : (has : ℕ → Bool) (from n : ℕ) (flags : List Bool) → length flags ≡ n
-    → ((k : ℕ) → k < n → get_or flags k false ≡ has (from + k)) → flags ≡ flags_from has from n
-flags_are has from zero [] size say = refl
-flags_are has from zero (flag ∷ flags) size say = absurd (omega (arith, size))
-flags_are has from (suc n) [] size say = absurd (omega (arith, size))
-flags_are has from (suc n) (flag ∷ flags) size say =
-    let here : from + 0 ≡ from = omega arith in
-    let first : flag ≡ has from = say 0 (omega arith) ∙ ap has here in
-    ap (λ f. f ∷ flags) first
-    ∙ ap (λ fs. has from ∷ fs) (flags_are has (from + 1) n flags (omega (arith, size))
-    (λ k less. let there : from + suc k ≡ from + 1 + k = omega arith in
-    say (suc k) (omega (arith, less)) ∙ ap has there))
-
--- where each of them was seen, all were
+-- where each of the numbers was seen, all were
 pub all_there : (seen : List ℕ) (from n : ℕ)
     → ((k : ℕ) → k < n → is_seen 512 seen (from + k) ≡ true) → true ≡ all_seen seen from n
 all_there seen from zero each = refl
@@ -72,10 +57,3 @@ pub same_flags : (has : ℕ → Bool) (from count size : ℕ) (flags : List Bool
     → flags ≡ flags_from has from count → coded_of flags ≡ coded_of (flags_from has from size)
 same_flags has from count size flags same is =
     ap coded_of (is ∙ ap (flags_from has from) same)
-
--- what was written is at the front
-pub written_front : (n : ℕ) (bytes out new : List ℕ)
-    → (n ≡ length bytes) × (new ≡ bytes ++ drop n out) → take n new ≡ bytes
-written_front n bytes out new is =
-    ap (take n) is.1 ∙ ap (λ m. take m (bytes ++ drop n out)) is.0
-    ∙ take-append_seam bytes (drop n out)

@@ -13,7 +13,8 @@ use Rattle.carrier.specs.LayoutLaw.{IsCarried, datagram_of, shown_of, telling_sh
 use Rattle.udp2_packets.specs.Value.{Telling as PacketTelling, NoTelling, AckTelling, VectorTelling, Packet}
 use Rattle.udp2_packets.specs.Layout.{ack_in, number_in, part_in, rest_in, vector_in, IsAck, IsBytes, IsPacket, IsVector, spelled}
 use Rattle.udp2_packets.proofs.Theorems.{written_is_read}
-use Rattle.udp2_core.specs.SecondLayout.{body_of, load_in, low, packet_shows, packet_with, second_layout, shows, telling_in, telling_where}
+use Rattle.link_machine.specs.Wire.{layout_of}
+use Rattle.udp2_core.specs.SecondLayout.{body_of, load_in, low, made_of, packet_shows, packet_with, second_layout, second_wire, shows, telling_in, telling_where}
 use Rattle.udp2_core.specs.TellingView.{IsShort}
 use Rattle.udp2_core.proofs.Told.{IsTold, told_formed}
 
@@ -117,14 +118,7 @@ rest_good (Some c) bytes = bytes
 
 -- the packet with this telling, this floor and this part
 abbrev pub made : PacketTelling → Option ℕ → Option Carried → Packet
-made telling floor load = record {
-  log_window = 6;
-  telling = telling;
-  overhead = None;
-  delay = None;
-  aoa = option_map low floor;
-  body = body_of load;
-}
+made telling floor load = made_of telling floor (body_of load)
 
 -- it is one
 pub made_good : (telling : PacketTelling) (floor : Option ℕ) (load : Option Carried)
@@ -179,22 +173,23 @@ body_back d (Some c) told =
     (telling_back d.tells d.telling told)
 
 -- a datagram whose telling is well formed is read back
-pub reads_back : (d : Datagram) → IsTold d.telling → CarriesBytes d.load
+reads_back : (d : Datagram) → IsTold d.telling → CarriesBytes d.load
     → shows (spelled (packet_with d)) ≡ Shows (shown_of second_layout d)
 reads_back d told bytes =
     ap packet_shows (written_is_read (packet_with d) (packet_good d told bytes))
     ∙ body_back d d.load told
 
 -- a part that is sent has bytes
-pub carried_bytes : (load : Option Carried) → IfSome load (IsCarried second_layout) → CarriesBytes load
+carried_bytes : (load : Option Carried) → IfSome load (IsCarried second_layout) → CarriesBytes load
 carried_bytes None is = tt
 carried_bytes (Some c) is = is.1
 
 -- what is told is read back, whatever is carried beside it
-pub read_back : (r : Received) (above : ℕ) (tells : Bool) (floor : Option ℕ) (load : Option Carried)
-    → IfSome load (IsCarried second_layout)
-    → (let d = datagram_of second_layout r above tells floor load in
-    second_layout.read (second_layout.spell d) ≡ Shows (shown_of second_layout d))
-read_back r above tells floor load is =
-    let d = datagram_of second_layout r above tells floor load in
-    reads_back d (told_formed above r.seen) (carried_bytes load is)
+pub read_back : (wait delay own peer : ℕ) (r : Received) (above : ℕ) (tells : Bool) (floor : Option ℕ) (load : Option Carried)
+    → (let layout = layout_of second_wire wait delay own peer in
+    IfSome load (IsCarried layout)
+    → (let d = datagram_of layout r above tells floor load in
+    layout.read (layout.spell d) ≡ Shows (shown_of layout d)))
+read_back wait delay own peer r above tells floor load is =
+    let d = datagram_of (layout_of second_wire wait delay own peer) r above tells floor load in
+    reads_back d (told_formed peer above r.seen) (carried_bytes load is)

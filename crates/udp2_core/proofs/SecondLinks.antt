@@ -3,19 +3,24 @@ use Rattle.std.proofs.Common.{ℕ, ◌+◌, ◌≤◌, ◌^◌, refl, arith}
 use Rattle.mt_base.specs.declared.kinds.Role.{Role}
 use Rattle.mt_base.specs.declared.kinds.Role.TheVariants.{Server, Client}
 use Rattle.mt_base.specs.Trace.{Trace}
-use Rattle.mt_windows.specs.declared.limits.TheConstants.{SPAN}
+use Rattle.mt_windows.specs.declared.limits.TheConstants.{SPAN, TELL}
 use Rattle.carrier.specs.Law.{Faithful}
+use Rattle.carrier.specs.LayoutLaw.{IsLayout}
 use Rattle.carrier.specs.Joined.{Step, half}
 use Rattle.carrier.specs.Faithful.{HasRoom}
 use Rattle.carrier.specs.TwoLinks.{Enough, Margins, Net}
 use Rattle.udp2_core.specs.MachineView.{Machine}
-use Rattle.udp2_core.specs.SecondLayout.{TELL, second_layout}
+use Rattle.udp2_core.specs.SecondLayout.{second_layout}
 use Rattle.udp2_core.specs.SecondLink.{JoinedMachines, SecondLink, second_layouts}
 use Rattle.udp2_core.proofs.IsLayout.{is_layout}
 
+-- the layout of a link is one
+pub second_lawful : IsLayout second_layout
+second_lawful = is_layout 300 50 1 1 (omega arith) (omega arith)
+
 -- the layout of one end leaves room for its parts
 pub has_room : HasRoom second_layout
-has_room = record { lawful = is_layout; some_part = omega arith; half_window = omega arith }
+has_room = record { lawful = second_lawful; some_part = omega arith; half_window = omega arith }
 
 enough : (late : ℕ) → SPAN + TELL + late ≤ 2 ^ 15
     → Enough late (2 ^ 15) second_layout.tells_parts second_layout.bounds
@@ -28,7 +33,7 @@ enough late in_time = record {
 
 pub margins : (late : ℕ) → SPAN + TELL + late ≤ 2 ^ 15 → Margins late second_layouts
 margins late in_time = record {
-  layout = λ s. is_layout;
+  layout = λ s. second_lawful;
   kinds = λ s. refl;
   reads = λ s datagram. refl;
   faces = λ s. refl;

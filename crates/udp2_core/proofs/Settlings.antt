@@ -9,7 +9,7 @@ use Rattle.mt_windows.specs.SendingView.{limits}
 use Rattle.mt_windows.proofs.Counts.{least_none}
 use Rattle.carrier.specs.Layout.{Layout}
 use Rattle.carrier.specs.Sending.{settles}
-use Rattle.udp2_core.specs.SecondLayout.{second_layout}
+use Rattle.udp2_core.specs.SettleView.{layout_from}
 
 -- ---- tests
 or_none : (b : Bool) → b || false ≡ b
@@ -32,6 +32,11 @@ and_second : (a b : Bool) → a && b ≡ true → b ≡ true
 and_second true b h = h
 and_second false b h = absurd (cc)
 
+and_not : (a b : Bool) → (a && not b) && b ≡ false
+and_not true true = refl
+and_not true false = refl
+and_not false b = refl
+
 -- ---- the least number
 least_same : (f g : ℕ → Bool) (n : ℕ) → ((p : ℕ) → f p ≡ g p) → least f n ≡ least g n
 least_same f g zero h = refl
@@ -39,13 +44,13 @@ least_same f g (suc n) h =
     ap (λ o. or_else o (cond (f n) (Some n) None)) (least_same f g n h)
     ∙ ap (λ b. or_else (least g n) (cond b (Some n) None)) (h n)
 
+or_else_more : (o : Option ℕ) (b : Bool) (n : ℕ) → is_some (or_else o (cond b (Some n) None)) ≡ is_some o || b
+or_else_more None true n = refl
+or_else_more None false n = refl
+or_else_more (Some k) b n = refl
+
 least_more : (f : ℕ → Bool) (n : ℕ) → is_some (least f (suc n)) ≡ is_some (least f n) || f n
-least_more f n = by_cases (least f n) (f n)
-  where
-    by_cases : (o : Option ℕ) (b : Bool) → is_some (or_else o (cond b (Some n) None)) ≡ is_some o || b
-    by_cases None true = refl
-    by_cases None false = refl
-    by_cases (Some k) b = refl
+least_more f n = or_else_more (least f n) (f n) n
 
 least_there : (f : ℕ → Bool) (n k : ℕ) → k < n → f k ≡ true → is_some (least f n) ≡ true
 least_there f zero k l is = absurd (omega (arith, l))
@@ -114,17 +119,14 @@ found_more o s q (suc n) =
 -- where nothing is told no part is settled
 pub settles_none : (layout : Layout) (s : Trace Act) → settles layout s s ≡ false
 settles_none layout s =
-    ap is_some (least_none (λ p. is_open layout.bounds.windows s p && settled layout.bounds.windows s p) (cuts s) (λ p l. never (ltb p (cuts s)) (settled layout.bounds.windows s p)))
-  where
-    never : (a b : Bool) → (a && not b) && b ≡ false
-    never true true = refl
-    never true false = refl
-    never false b = refl
+    let limits = layout.bounds.windows in
+    ap is_some (least_none (λ p. is_open limits s p && settled limits s p) (cuts s)
+    (λ p l. and_not (ltb p (cuts s)) (settled limits s p)))
 
 -- One transmission more is told, after a telling that only settles. A part becomes settled where one
 -- was before, or where this transmission settles one.
 pub settles_more : (acts t : Trace Act) (j : ℕ) → cuts t ≡ cuts acts → ((p : ℕ) → settled limits acts p ≡ true → settled limits t p ≡ true)
-    → settles second_layout acts (t ▷ ToldTransmission j) ≡ settles second_layout acts t || (is_recent limits t j && is_open limits t (part_of t j))
+    → settles (layout_from 0) acts (t ▷ ToldTransmission j) ≡ settles (layout_from 0) acts t || (is_recent limits t j && is_open limits t (part_of t j))
 settles_more acts t j same grows = by_recent (is_recent limits t j)
   where
     q : ℕ

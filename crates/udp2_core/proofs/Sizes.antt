@@ -14,7 +14,9 @@ use Rattle.udp2_packets.specs.Layout.{IsAck, ack_fields, ack_in, announced_field
 use Rattle.udp2_packets.specs.Value.{Ack, Stamp, Telling as PacketTelling, NoTelling, AckTelling, VectorTelling, Packet}
 use Rattle.udp2_packets.proofs.Frames.{reading_short}
 use Rattle.udp2_packets.proofs.WriterLemmas.{length-exchanged, written_is}
-use Rattle.udp2_core.specs.SecondLayout.{body_of, packet_shows, second_layout, shows, telling_where}
+use Rattle.link_machine.specs.Wire.{layout_of}
+use Rattle.link_machine.specs.WireLaw.{bytes_of}
+use Rattle.udp2_core.specs.SecondLayout.{body_of, packet_shows, second_layout, second_wire, shows, telling_where}
 use Rattle.udp2_core.specs.TellingView.{IsShort}
 use Rattle.udp2_core.proofs.ReadBack.{made, short_told}
 use Rattle.udp2_core.proofs.Told.{told_formed}
@@ -69,18 +71,13 @@ two_groups xs ys = ap length (joined-append xs ys) ∙ length-append (joined xs)
 
 -- ---- the whole
 
--- the bytes of a part that is carried
-abbrev pub bytes_in : Option Carried → List ℕ
-bytes_in None = []
-bytes_in (Some c) = c.bytes
-
-rest_size : (load : Option Carried) → length (rest_in (body_of load)) ≡ length (bytes_in load)
+rest_size : (load : Option Carried) → length (rest_in (body_of load)) ≡ length (bytes_of load)
 rest_size None = refl
 rest_size (Some c) = refl
 
 -- a packet has at most 89 bytes beside those of the part that it carries
-text_size : (telling : PacketTelling) (floor : Option ℕ) (load : Option Carried) → IsShort telling
-    → length (text (made telling floor load)) ≤ 89 + length (bytes_in load)
+pub text_size : (telling : PacketTelling) (floor : Option ℕ) (load : Option Carried) → IsShort telling
+    → length (text (made telling floor load)) ≤ 89 + length (bytes_of load)
 text_size telling floor load short =
     let p = made telling floor load in
     let ack = where_some ack_fields (ack_in p.telling) in
@@ -118,14 +115,14 @@ spelled_size p =
     )
 
 -- a datagram has at most 90 bytes beside those of the part that it carries
-made_size : (telling : PacketTelling) (floor : Option ℕ) (load : Option Carried) → IsShort telling
-    → length (spelled (made telling floor load)) ≤ 90 + length (bytes_in load)
+pub made_size : (telling : PacketTelling) (floor : Option ℕ) (load : Option Carried) → IsShort telling
+    → length (spelled (made telling floor load)) ≤ 90 + length (bytes_of load)
 made_size telling floor load short =
     omega (arith, text_size telling floor load short, spelled_size (made telling floor load))
 
 -- a part has at most 1,000 bytes
 part_size : (load : Option Carried) → IfSome load (IsCarried second_layout)
-    → length (bytes_in load) ≤ 1000
+    → length (bytes_of load) ≤ 1000
 part_size None is = omega arith
 part_size (Some c) is = is.0
 
@@ -137,13 +134,14 @@ made_short telling floor load short is =
     omega (arith, made_size telling floor load short, part_size load is)
 
 -- a datagram is short enough to carry a part and what was received
-pub short_enough : (r : Received) (above : ℕ) (tells : Bool) (floor : Option ℕ) (load : Option Carried)
-    → IfSome load (IsCarried second_layout)
-    → length (second_layout.spell (datagram_of second_layout r above tells floor load)) ≤ 1132
-short_enough r above tells floor load is =
-    let d = datagram_of second_layout r above tells floor load in
+pub short_enough : (wait delay own peer : ℕ) (r : Received) (above : ℕ) (tells : Bool) (floor : Option ℕ) (load : Option Carried)
+    → (let layout = layout_of second_wire wait delay own peer in
+    IfSome load (IsCarried layout)
+    → length (layout.spell (datagram_of layout r above tells floor load)) ≤ 1132)
+short_enough wait delay own peer r above tells floor load is =
+    let d = datagram_of (layout_of second_wire wait delay own peer) r above tells floor load in
     made_short (telling_where tells d.telling) floor load
-    (short_told tells d.telling (told_formed above r.seen)) is
+    (short_told tells d.telling (told_formed peer above r.seen)) is
 
 -- fewer than eight bytes show nothing
 pub tiny : (datagram : List ℕ) → length datagram < 8 → shown_in (shows datagram) ≡ None

@@ -1,13 +1,14 @@
 -- What a telling says: how it is formed, and that only numbers that were seen are told.
-use Rattle.std.proofs.Common.{◌≡◌, ℕ, zero, suc, ◌+◌, ◌-◌, ◌<◌, ◌≤◌, inl, inr, Bool, true, false, leb, cond, max, min, List, [], length, reverse, replicate, slice_get, Option, None, refl, sym, ap, ◌∙◌, arith}
+use Rattle.std.proofs.Common.{◌≡◌, ℕ, zero, suc, ◌+◌, ◌-◌, ◌<◌, ◌≤◌, inl, inr, Bool, true, false, leb, cond, max, List, length, reverse, replicate, slice_get, Option, None, refl, sym, ap, ◌∙◌, arith}
 use Rattle.std.specs.Prelude.{if◌then◌else◌}
 use Rattle.std.specs.Option.{unwrap_or}
 use Rattle.std.proofs.lemmas.Bool.{cases_lt, false≢true, and_parts, le-leb, lt-leb}
 use Rattle.std.proofs.lemmas.List.{length-replicate, length-reverse}
-use Rattle.std.proofs.lemmas.Option.{slice_get_past}
+use Rattle.std.proofs.lemmas.List.FromFn.{get_or-map-range_with_len, length-map-range_with_len}
+use Rattle.std.proofs.lemmas.Option.{slice_get_past, unwrap_or-slice_get}
 use Rattle.mt_windows.specs.Noted.{is_noted, is_seen}
 use Rattle.carrier.specs.Layout.{Telling, Upto, From, named_in, tells}
-use Rattle.udp2_core.specs.SecondLayout.{all_seen, flags_from, last_of, telling_of, told_from}
+use Rattle.udp2_core.specs.SecondLayout.{all_seen, count_of, flags_from, last_of, telling_of, told_from}
 
 -- ---- the form
 
@@ -18,50 +19,57 @@ IsTold (From named flags) = length flags ≤ 512
 
 -- there are as many flags as numbers
 pub length-flags_from : (has : ℕ → Bool) (from n : ℕ) → length (flags_from has from n) ≡ n
-length-flags_from has from zero = refl
-length-flags_from has from (suc n) = ap suc (length-flags_from has (from + 1) n)
+length-flags_from has from n = length-map-range_with_len (λ ahead. has (from + ahead)) 0 n
 
--- what is told up to h, where the last numbers were all seen or not
-abbrev pub told_where : List ℕ → ℕ → ℕ → Bool → Telling
-told_where seen above h all =
-    if all then Upto h (replicate (max 1 (min 16 h)) true)
-    else From (told_from above h) (flags_from (is_seen 512 seen) (told_from above h) (h + 1 - told_from above h))
+module _ (first : ℕ) where
+  -- what is told up to h, where the last numbers were all seen or not
+  abbrev pub told_where : List ℕ → ℕ → ℕ → Bool → Telling
+  told_where seen above h all =
+      if all then Upto h (replicate (max 1 (count_of first h)) true)
+      else From (told_from first above h)
+      (flags_from (is_seen 512 seen) (told_from first above h) (h + 1 - told_from first above h))
 
-formed : (seen : List ℕ) (above h : ℕ) (all : Bool) → IsTold (told_where seen above h all)
-formed seen above h true =
-    let count : max 1 (min 16 h) ≡ suc (max 1 (min 16 h) - 1) = omega arith in
-    (max 1 (min 16 h) - 1, omega arith, ap (λ n. replicate n true) count)
-formed seen above h false =
-    omega (arith, length-flags_from (is_seen 512 seen) (told_from above h) (h + 1 - told_from above h))
+  -- whether they were
+  abbrev pub all_where : List ℕ → ℕ → Bool
+  all_where seen h = all_seen seen (h + 1 - count_of first h) (count_of first h)
 
--- what is told has this form
-pub told_formed : (above : ℕ) (seen : List ℕ) → IsTold (telling_of above seen)
-told_formed above seen =
-    let h = last_of seen in formed seen above h (all_seen seen (h + 1 - min 16 h) (min 16 h))
+  formed : (seen : List ℕ) (above h : ℕ) (all : Bool) → IsTold (told_where seen above h all)
+  formed seen above h true =
+      let most = max 1 (count_of first h) in
+      let count : most ≡ suc (most - 1) = omega arith in
+      (most - 1, omega arith, ap (λ n. replicate n true) count)
+  formed seen above h false =
+      omega (arith, length-flags_from (is_seen 512 seen) (told_from first above h) (h + 1 - told_from first above h))
 
--- ---- the number that is named
+  -- what is told has this form
+  pub told_formed : (above : ℕ) (seen : List ℕ) → IsTold (telling_of first above seen)
+  told_formed above seen = let h = last_of first seen in formed seen above h (all_where seen h)
 
-near_where : (seen : List ℕ) (above h : ℕ) (all : Bool) → h ≤ named_in (told_where seen above h all) + 512
-near_where seen above h true = omega arith
-near_where seen above h false = omega arith
+  -- ---- the number that is named
 
-within_where : (seen : List ℕ) (above h : ℕ) (all : Bool) → above ≤ h
-    → all_seen seen (h + 1 - min 16 h) (min 16 h) ≡ all → named_in (told_where seen above h all) ≤ h
-within_where seen above h true low is = omega arith
-within_where seen above zero false low is = absurd (cc)
-within_where seen above (suc h) false low is = omega (arith, low)
+  near_where : (seen : List ℕ) (above h : ℕ) (all : Bool) → h ≤ named_in (told_where seen above h all) + 512
+  near_where seen above h true = omega arith
+  near_where seen above h false = omega arith
 
--- it is at most 512 below the last one seen
-pub named_near : (above : ℕ) (seen : List ℕ) → last_of seen ≤ named_in (telling_of above seen) + 512
-named_near above seen =
-    let h = last_of seen in near_where seen above h (all_seen seen (h + 1 - min 16 h) (min 16 h))
+  none_counted : (seen : List ℕ) (from n : ℕ) → all_seen seen from n ≡ false → 0 < n
+  none_counted seen from zero is = absurd (false≢true (sym is))
+  none_counted seen from (suc n) is = omega arith
 
--- and not above that one, where the floor isn't
-pub named_within : (above : ℕ) (seen : List ℕ) → above ≤ last_of seen
-    → named_in (telling_of above seen) ≤ last_of seen
-named_within above seen low =
-    let h = last_of seen in
-    within_where seen above h (all_seen seen (h + 1 - min 16 h) (min 16 h)) low refl
+  within_where : (seen : List ℕ) (above h : ℕ) (all : Bool) → above ≤ h
+      → all_where seen h ≡ all → named_in (told_where seen above h all) ≤ h
+  within_where seen above h true low is = omega arith
+  within_where seen above h false low is =
+      omega (arith, low, none_counted seen (h + 1 - count_of first h) (count_of first h) is)
+
+  -- it is at most 512 below the last one seen
+  pub named_near : (above : ℕ) (seen : List ℕ) → last_of first seen ≤ named_in (telling_of first above seen) + 512
+  named_near above seen = let h = last_of first seen in near_where seen above h (all_where seen h)
+
+  -- and not above that one, where the floor isn't
+  pub named_within : (above : ℕ) (seen : List ℕ) → above ≤ last_of first seen
+      → named_in (telling_of first above seen) ≤ last_of first seen
+  named_within above seen low =
+      let h = last_of first seen in within_where seen above h (all_where seen h) low refl
 
 -- ---- only what was seen
 
@@ -72,12 +80,14 @@ no_true flag none is = absurd (false≢true (sym (ap (λ f. unwrap_or f false) n
 -- a flag that is set has what is told of
 had_at : (has : ℕ → Bool) (from n k : ℕ)
     → unwrap_or (slice_get (flags_from has from n) k) false ≡ true → has (from + k) ≡ true
-had_at has from zero k is = no_true (slice_get {X = Bool} [] k) (slice_get_past [] k (omega arith)) is
-had_at has from (suc n) zero is =
-    let here : from + 0 ≡ from = omega arith in ap has here ∙ is
-had_at has from (suc n) (suc k) is =
-    let there : from + 1 + k ≡ from + suc k = omega arith in
-    sym (ap has there) ∙ had_at has (from + 1) n k is
+had_at has from n k is = elim (cases_lt k n) [
+  | inl less ↦
+      sym (get_or-map-range_with_len (λ ahead. has (from + ahead)) 0 n k k false less (omega arith))
+      ∙ sym (unwrap_or-slice_get (flags_from has from n) k false) ∙ is
+  | inr past ↦
+      no_true (slice_get (flags_from has from n) k)
+      (slice_get_past (flags_from has from n) k (omega (arith, past, length-flags_from has from n))) is
+]
 
 -- each of the numbers that were all seen
 seen_at : (seen : List ℕ) (from n q : ℕ) → all_seen seen from n ≡ true → from ≤ q → q < from + n
@@ -121,19 +131,20 @@ from_had has from m n is = elim (cases_lt n from) [
       sym (ap has there) ∙ had_at has from m (n - from) (sym on ∙ is)
 ]
 
-told_seen : (seen : List ℕ) (above h n : ℕ) (all : Bool) → 1 ≤ n
-    → all_seen seen (h + 1 - min 16 h) (min 16 h) ≡ all
-    → tells (told_where seen above h all) n ≡ true → is_seen 512 seen n ≡ true
-told_seen seen above h n true some all is =
-    let among = upto_among h (max 1 (min 16 h)) n is in
-    seen_at seen (h + 1 - min 16 h) (min 16 h) n all (omega (arith, among)) (omega (arith, among))
-told_seen seen above h n false some all is =
-    from_had (is_seen 512 seen) (told_from above h) (h + 1 - told_from above h) n is
+module _ (first : ℕ) where
+  told_seen : (seen : List ℕ) (above h n : ℕ) (all : Bool) → 1 ≤ first → first ≤ n
+      → all_where first seen h ≡ all
+      → tells (told_where first seen above h all) n ≡ true → is_seen 512 seen n ≡ true
+  told_seen seen above h n true some from all is =
+      let count = count_of first h in
+      let among = upto_among h (max 1 count) n is in
+      seen_at seen (h + 1 - count) count n all (omega (arith, among, some, from)) (omega (arith, among, some, from))
+  told_seen seen above h n false some from all is =
+      from_had (is_seen 512 seen) (told_from first above h) (h + 1 - told_from first above h) n is
 
--- only numbers that were seen are told
-pub only_seen : (above : ℕ) (seen : List ℕ) (n : ℕ) → 1 ≤ n → tells (telling_of above seen) n ≡ true
-    → is_noted n seen ≡ true
-only_seen above seen n some is =
-    let h = last_of seen in
-    (and_parts (is_noted n seen) _ (told_seen seen above h n
-    (all_seen seen (h + 1 - min 16 h) (min 16 h)) some refl is)).0
+  -- only numbers that were seen are told
+  pub only_seen : (above : ℕ) (seen : List ℕ) (n : ℕ) → 1 ≤ first → first ≤ n
+      → tells (telling_of first above seen) n ≡ true → is_noted n seen ≡ true
+  only_seen above seen n some from is =
+      let h = last_of first seen in
+      (and_parts (is_noted n seen) _ (told_seen seen above h n (all_where first seen h) some from refl is)).0

@@ -1,29 +1,20 @@
--- What a packet shows, in the words of links.
-use Rattle.std.specs.Prelude.{◌≤◌, length, Some, IfSome}
-use Rattle.carrier.specs.Layout.{Shown}
+-- What the code's values show and tell.
+use Rattle.std.specs.Prelude.{◌<◌, ◌≤◌, ◌^◌, length}
+use Rattle.mt_windows.specs.declared.limits.TheConstants.{DATAGRAM}
+use Rattle.link_machine.specs.declared.told.Told.{Told}
+use Rattle.link_machine.specs.declared.told.Told.TheVariants as code
 use Rattle.udp2_packets.specs.Value.{Body, NoBody, DataBody, DummyBody}
-use Rattle.udp2_packets.specs.Layout.{IsVector, vector_in}
-use Rattle.udp2_packets.specs.Views.{telling_of}
-use Rattle.udp2_core.specs.declared.contents.Contents.{Contents}
-use Rattle.udp2_core.specs.SecondLayout.{telling_in}
-use Rattle.udp2_core.specs.ReceiverView.{load_of, Fits}
 
--- the code's value shows this
-abbrev pub shown_by : Contents → Shown
-shown_by c = record {
-  window = Some c.window;
-  telling = telling_in (telling_of c.telling);
-  floor = c.floor;
-  load = load_of c.load;
-}
-
--- its vector keeps its rules, and its part is no longer than a datagram
-pub record IsFit (c : Contents) : Type 0 where
-  pub good : IfSome (vector_in (telling_of c.telling)) IsVector
-  pub fits : Fits c.load
+-- it tells nothing, or of some numbers up to one, or by coded bytes from one on; numbers are shown in
+-- 16 bits
+abbrev pub CanTell : Told → Type 0
+CanTell code.Nothing = Unit {0}
+CanTell (code.Last named count) = (named < 2 ^ 16) × (1 ≤ count)
+CanTell (code.Upto named bytes) = ⊥
+CanTell (code.From named bytes) = (named < 2 ^ 16) × (length bytes.now < 2 ^ 7)
 
 -- the part that such a body carries is no longer than a datagram
 abbrev pub BodyFits : Body → Type 0
 BodyFits NoBody = Unit {0}
-BodyFits (DataBody number part bytes) = length bytes ≤ 1232
+BodyFits (DataBody number part bytes) = length bytes ≤ DATAGRAM
 BodyFits (DummyBody number rest) = Unit {0}

@@ -23,13 +23,13 @@ telling = 0x00 ∷ 0x01 ∷ 0x60 ∷ 0x01 ∷ 0x00 ∷ 0x00 ∷ 0x00 ∷ 0xe0 �
 abbrev pub given : Trace Entry
 given = Start ▷ Gave (0x41 ∷ 0x42 ∷ [])
 
--- and sent at the moment 0
-abbrev pub sent : Trace Entry
-sent = given ▷ Polled 0 (Some part)
-
 -- at the other end they came at the moment 10
 abbrev pub came : Trace Entry
 came = Start ▷ In 10 part Used
+
+-- they were sent at the moment 0
+abbrev pub sent : Trace Entry
+sent = given ▷ Polled 0 (Some part)
 
 -- and were told at the moment 200
 abbrev pub told : Trace Entry

@@ -1,14 +1,17 @@
 -- The second layout (MS-RDPEUDP2 section 2.2) as the layout of a reliable link.
-use Rattle.std.specs.Prelude.{ℕ, zero, suc, ◌+◌, ◌-◌, ◌%◌, ◌^◌, Bool, true, false, ◌&&◌, min, max, List, [], ◌∷◌, length, replicate, if◌then◌else◌, Option, Some, None, option_map, unwrap_or, Result, Ok, Err}
+use Rattle.std.specs.Prelude.{ℕ, zero, suc, ◌+◌, ◌-◌, ◌%◌, ◌^◌, Bool, true, false, ◌&&◌, min, max, List, [], ◌∷◌, length, drop, map, replicate, if◌then◌else◌, Option, Some, None, option_map, unwrap_or, Result, Ok, Err}
+use Rattle.std.specs.List.{range_with_len}
 use Rattle.mt_windows.specs.Noted.{greatest_of, is_seen}
-use Rattle.mt_windows.specs.SendingView.{limits}
+use Rattle.mt_windows.specs.declared.limits.TheConstants.{TELL}
 use Rattle.coded_vector.specs.CodedBytes.{flags_of}
 use Rattle.coded_vector.specs.Written.{coded_of}
 use Rattle.carrier.specs.declared.second_layout.Refusal2.{Refusal2}
 use Rattle.carrier.specs.declared.state.Reason.TheVariants as reason
-use Rattle.carrier.specs.Layout.{Layout, Bounds, Reading, Refuses, Shows, Load, Empty, Carries, Dummy, Telling as Told, Upto, From, Datagram, Carried}
+use Rattle.carrier.specs.Layout.{Layout, Reading, Refuses, Shows, Load, Empty, Carries, Dummy, Telling as Told, Upto, From, Datagram, Carried}
+use Rattle.link_machine.specs.declared.numbers.Numbers.{Numbers}
+use Rattle.link_machine.specs.Wire.{Wire, layout_of}
 use Rattle.udp2_packets.specs.Value.{Telling, NoTelling, AckTelling, VectorTelling, Body, NoBody, DataBody, DummyBody, Packet}
-use Rattle.udp2_packets.specs.Layout.{spelled}
+use Rattle.udp2_packets.specs.Layout.{finished, spelled, text}
 use Rattle.udp2_packets.specs.Reading.{reading}
 
 -- ---- what a datagram shows
@@ -44,41 +47,42 @@ shows datagram = packet_shows (reading datagram)
 
 -- ---- what is told
 
--- of how many of the last numbers one telling can speak, and of how many where none of them is
--- missing
-abbrev pub TELL : ℕ
-TELL = 512
-
+-- of how many numbers one telling speaks where none of them is missing
 abbrev pub ALL_SEEN : ℕ
 ALL_SEEN = 16
 
--- the greatest transmission that was seen, or 0
-abbrev pub last_of : List ℕ → ℕ
-last_of seen = unwrap_or (greatest_of seen) 0
+-- the greatest transmission that was seen, or one less than the first
+abbrev pub last_of : ℕ → List ℕ → ℕ
+last_of first seen = unwrap_or (greatest_of seen) (first - 1)
 
 -- the flags of so many numbers from one on
 abbrev pub flags_from : (ℕ → Bool) → ℕ → ℕ → List Bool
-flags_from has from zero = []
-flags_from has from (suc n) = has from ∷ flags_from has (from + 1) n
+flags_from has from n = map (λ ahead. has (from + ahead)) (range_with_len 0 n)
 
 -- so many numbers from one on were seen
 abbrev pub all_seen : List ℕ → ℕ → ℕ → Bool
 all_seen seen from zero = true
 all_seen seen from (suc n) = is_seen TELL seen from && all_seen seen (from + 1) n
 
+-- how many of the last numbers up to h an acknowledgement tells of: 16, or those from the first on
+abbrev pub count_of : ℕ → ℕ → ℕ
+count_of first h = min ALL_SEEN (h + 1 - first)
+
 -- the least number that a vector tells of: of the last ones up to h, none below the first and the
 -- floor
-abbrev pub told_from : ℕ → ℕ → ℕ
-told_from floor h = max (max 1 floor) (h + 1 - TELL)
+abbrev pub told_from : ℕ → ℕ → ℕ → ℕ
+told_from first floor h = max (max first floor) (h + 1 - TELL)
 
 -- Where the last numbers, 16 at most, were all seen, an acknowledgement of them; else a vector of
--- the last 512 at most. Where nothing was seen, the acknowledgement of number 0, which none has.
-abbrev pub telling_of : ℕ → List ℕ → Told
-telling_of floor seen =
-    let h = last_of seen in
-    let count = min ALL_SEEN h in
+-- the last 512 at most. Where nothing was seen, the acknowledgement of the number below the first,
+-- which none has.
+abbrev pub telling_of : ℕ → ℕ → List ℕ → Told
+telling_of first floor seen =
+    let h = last_of first seen in
+    let count = count_of first h in
     if all_seen seen (h + 1 - count) count then Upto h (replicate (max 1 count) true)
-    else From (told_from floor h) (flags_from (is_seen TELL seen) (told_from floor h) (h + 1 - told_from floor h))
+    else From (told_from first floor h)
+    (flags_from (is_seen TELL seen) (told_from first floor h) (h + 1 - told_from first floor h))
 
 -- ---- how a datagram is spelled
 
@@ -108,34 +112,47 @@ abbrev pub body_of : Option Carried → Body
 body_of None = NoBody
 body_of (Some c) = DataBody (low c.transmission) (low c.part) c.bytes
 
--- the window is the 6th power of two
-abbrev pub packet_with : Datagram → Packet
-packet_with d = record {
+-- the packet with this telling, this floor and this body; the window is the 6th power of two
+abbrev pub made_of : Telling → Option ℕ → Body → Packet
+made_of telling floor body = record {
   log_window = 6;
-  telling = telling_where d.tells d.telling;
+  telling = telling;
   overhead = None;
   delay = None;
-  aoa = option_map low d.floor;
-  body = body_of d.load;
+  aoa = option_map low floor;
+  body = body;
 }
+
+abbrev pub packet_with : Datagram → Packet
+packet_with d = made_of (telling_where d.tells d.telling) d.floor (body_of d.load)
+
+-- the packet up to the bytes of its part
+abbrev pub head_body : Option Numbers → Body
+head_body None = NoBody
+head_body (Some n) = DataBody (low n.transmission) (low n.part) []
+
+abbrev pub head_packet : Told → Bool → Option ℕ → Option Numbers → Packet
+head_packet telling tells floor numbers =
+    made_of (telling_where tells telling) floor (head_body numbers)
 
 -- ---- the layout
 
-abbrev pub bounds : Bounds
-bounds = record { windows = limits; datagram = 1232; with_telling = 1132; expiries = 16; tell = TELL }
+-- What the machine of a link asks of the second layout. The head of a datagram has a zero in the
+-- place of the prefix byte, and what is done at the end makes a datagram of the fields behind it.
+abbrev pub second_wire : Wire
+second_wire = record {
+  tells_parts = false;
+  tell = TELL;
+  modulus = modulus;
+  read = shows;
+  told = λ first r floor. telling_of first floor r.seen;
+  spell = λ d. spelled (packet_with d);
+  flags = flags_of;
+  head = λ telling tells floor numbers. 0 ∷ text (head_packet telling tells floor numbers);
+  finished = λ fields. finished 0 (drop 1 fields);
+}
 
 -- The layout at either end. Parts and transmissions are numbered from 1 on. The timer waits at least
 -- 300 milliseconds, and one telling may be owed for 50.
 abbrev pub second_layout : Layout
-second_layout = record {
-  bounds = bounds;
-  own = 1;
-  peer = 1;
-  modulus = modulus;
-  tells_parts = false;
-  wait = 300;
-  delay = 50;
-  read = shows;
-  told = λ r floor. telling_of floor r.seen;
-  spell = λ d. spelled (packet_with d);
-}
+second_layout = layout_of second_wire 300 50 1 1

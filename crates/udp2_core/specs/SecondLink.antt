@@ -3,11 +3,11 @@ use Rattle.std.specs.Prelude.{ℕ, ◌+◌, ◌≤◌, ◌^◌}
 use Rattle.mt_base.specs.declared.kinds.Role.{Role}
 use Rattle.mt_base.specs.declared.kinds.Role.TheVariants.{Server, Client}
 use Rattle.mt_base.specs.Trace.{Trace}
-use Rattle.mt_windows.specs.declared.limits.TheConstants.{SPAN}
+use Rattle.mt_windows.specs.declared.limits.TheConstants.{SPAN, TELL}
 use Rattle.carrier.specs.Layout.{Layout}
 use Rattle.carrier.specs.Law.{Faithful}
 use Rattle.carrier.specs.Joined.{Step, half, Timely}
-use Rattle.udp2_core.specs.SecondLayout.{TELL, second_layout}
+use Rattle.udp2_core.specs.SecondLayout.{second_layout}
 use Rattle.udp2_core.specs.MachineView.{Machine, Stands}
 
 -- both ends have the same layout

@@ -4,14 +4,13 @@ ghost use Rattle.std.specs.Prelude.{◌≡◌, ◌+◌, ◌≤◌, ◌^◌, ◌+
 ghost use Rattle.mt_base.specs.declared.kinds.Role.{Role};
 ghost use Rattle.mt_base.specs.declared.kinds.Role.TheVariants.{Server, Client};
 ghost use Rattle.mt_base.specs.Trace.{Trace};
-ghost use Rattle.mt_windows.specs.declared.limits.TheConstants.{SPAN};
+ghost use Rattle.mt_windows.specs.declared.limits.TheConstants.{SPAN, TELL};
 ghost use Rattle.carrier.specs.Entries.{given, pulled};
 ghost use Rattle.carrier.specs.Joined.{Step, half};
 ghost use Rattle.carrier.specs.TwoLinks.{AllRead, CutsNear, KnownWereSeen, LowestArrived, Margins, PassedWasGiven, PulledWasGiven, SeenWereMade, SettledArrive};
-ghost use Rattle.udp2_core.specs.SecondLayout.{TELL};
 ghost use Rattle.udp2_core.specs.SecondLink.{JoinedMachines, SecondLink, second_layouts};
 
-use crate::machine::Udp2Core;
+use crate::link::Udp2Core;
 use carrier::joined_links;
 
 /// The two ends of a link tell their numbers of 16 bits apart as long as fewer than 28,160 datagrams

@@ -1,8 +1,0 @@
-use Rattle.udp2_core.proofs.Receiving.{kept_window, with_window}
-use Rattle.udp2_core.proofs.receiver.Receiver.pull.Goals as goal
-
-pub returns-clause-stands : goal.returns-clause-stands
-returns-clause-stands c got n floor owed h =
-    let window = kept_window _ c.args.self.now got n floor owed c.self.view_is h in
-    with_window _ c.args.self.now c.pull.new.self got got.parts n _ floor owed c.self.view_is h
-    (c.pull.ensures.holds 1 got.parts n window)
