@@ -265,7 +265,7 @@ abbrev pub EachAmong : List ℕ → List ℕ → Type 0
 EachAmong all [] = Unit {0}
 EachAmong all (id ∷ ids) = (is_among id all ≡ true) × EachAmong all ids
 
-may_among : (t : Trace Act) (all ids : List ℕ) → ((id : ℕ) → is_open Server id t ≡ true → is_among id all ≡ true) → MayMove t ids → EachAmong all ids
+pub may_among : (t : Trace Act) (all ids : List ℕ) → ((id : ℕ) → is_open Server id t ≡ true → is_among id all ≡ true) → MayMove t ids → EachAmong all ids
 may_among t all [] h m = tt
 may_among t all (id ∷ ids) h m = (h id m.0, may_among t all ids h m.3)
 

@@ -19,6 +19,7 @@ pub mod Telling
 pub mod Known
 pub mod Creating
 pub mod Answering
+pub mod Distinct
 pub mod Listing
 pub mod Hearing
 pub mod Controls

@@ -1,76 +1,21 @@
 -- A Soft-Sync request lists channels that no earlier one listed.
-use Rattle.std.proofs.Common.{◌≡◌, ℕ, ◌+◌, ◌<◌, Bool, true, false, ◌||◌, cond, eqb, nat_eq, List, [], ◌∷◌, ◌++◌, map, length, Some, None, refl, sym, ap, subst, ◌∙◌, append_assoc, length-append, eq-eqb}
-use Rattle.std.proofs.lemmas.Bool.{eqb-true}
-use Rattle.std.specs.List.{list_any}
-use Rattle.std.specs.Map.{lookup}
-use Rattle.mt_base.specs.declared.kinds.Kind.{Kind}
-use Rattle.mt_base.specs.declared.kinds.Kind.TheVariants.{Reliable, Lossy}
+use Rattle.std.proofs.Common.{◌≡◌, ◌+◌, ◌<◌, List, [], ◌∷◌, ◌++◌, map, length, refl, sym, ap, subst, ◌∙◌, length-append}
 use Rattle.mt_base.specs.declared.kinds.Role.{Role}
+use Rattle.mt_base.specs.declared.kinds.Role.TheVariants.{Server, Client}
 use Rattle.mt_base.specs.Trace.{Trace, Start, ◌▷◌}
-use Rattle.dvc_pdus.specs.Value.{lists_of}
-use Rattle.soft_sync.specs.declared.kinds.Kinds.{Kinds}
-use Rattle.soft_sync.specs.Exchanges.{Request, exchanges, kind_in, listed}
+use Rattle.soft_sync.specs.Exchanges.{Request}
 use Rattle.soft_sync.specs.Words.{request_of}
 use Rattle.mt_endpoint.specs.Acts.{Act, Syncs, Heard}
-use Rattle.mt_endpoint.specs.Moving.{all_told, made_by, made, channels_listed, request_read}
+use Rattle.mt_endpoint.specs.Moving.{all_told, made_by, request_read}
 use Rattle.mt_endpoint.specs.Writing.{adds, on_main, spoken}
-use Rattle.mt_endpoint.specs.World.{MayMove}
 use Rattle.mt_endpoint.specs.Alone.{IsAct, EndOfActs}
 use Rattle.mt_endpoint.specs.Orders.{EachMay, is_among, told_by, ids_in, listings, requests_told, EachNew, MovesMay, MayList}
-use Rattle.mt_endpoint.proofs.Asking.{neither}
-use Rattle.mt_endpoint.proofs.Telling.{either}
-use Rattle.mt_endpoint.proofs.Known.{among-append}
+pub use Rattle.mt_endpoint.proofs.Distinct.{ids_of, other_way}
+use Rattle.mt_endpoint.proofs.Distinct.{ids_of-append, ids_made, unlisted, out_all, new_all, few_made}
 use Rattle.mt_endpoint.proofs.Creating.{told-append, data_tells}
 use Rattle.mt_endpoint.proofs.Written.{request_written}
 use Rattle.mt_endpoint.proofs.Answering.{map-append}
 use Rattle.mt_endpoint.proofs.Sources.{Source, begun, opens, asks_for, tells, syncs, closes, answers, heard_capable, heard_creates, heard_ends, released_ends, Adds, nothing, frame, sends, adds_what, each_written}
-
--- ---- the ids of requests
-
-pub ids-append : (xs ys : List (ℕ × Kind)) → ids_in (xs ++ ys) ≡ ids_in xs ++ ids_in ys
-ids-append [] ys = refl
-ids-append ((id, kind) ∷ xs) ys = ap (λ l. id ∷ l) (ids-append xs ys)
-
-ids_under : (kind : Kind) (ids : List ℕ) → ids_in (map (λ id. (id, kind)) ids) ≡ ids
-ids_under kind [] = refl
-ids_under kind (id ∷ ids) = ap (λ l. id ∷ l) (ids_under kind ids)
-
-pub ids_made : (reliable lossy : List ℕ) → ids_in (channels_listed (lists_of reliable lossy)) ≡ reliable ++ lossy
-ids_made reliable lossy =
-    ap (λ (r : Request). ids_in r.channels) (request_written reliable lossy) ∙ ids-append (map (λ id. (id, Reliable)) reliable) (map (λ id. (id, Lossy)) lossy)
-    ∙ ap (λ l. l ++ ids_in (map (λ id. (id, Lossy)) lossy)) (ids_under Reliable reliable) ∙ ap (λ l. reliable ++ l) (ids_under Lossy lossy)
-
-abbrev pub ids_of : List Request → List ℕ
-ids_of [] = []
-ids_of (r ∷ rs) = ids_in r.channels ++ ids_of rs
-
-pub ids_of-append : (xs ys : List Request) → ids_of (xs ++ ys) ≡ ids_of xs ++ ids_of ys
-ids_of-append [] ys = refl
-ids_of-append (r ∷ xs) ys = ap (λ l. ids_in r.channels ++ l) (ids_of-append xs ys) ∙ sym (append_assoc (ids_in r.channels) (ids_of xs) (ids_of ys))
-
-pub other_way : (a b : ℕ) → eqb a b ≡ false → eqb b a ≡ false
-other_way a b h = by_test (eqb b a) refl where
-  by_test : (c : Bool) → eqb b a ≡ c → c ≡ false
-  by_test true e = let same : b ≡ a = eqb-true b a e in absurd (let no : true ≡ false = sym (eq-eqb a b (sym same)) ∙ h in cc)
-  by_test false e = refl
-
-unlooked : (id : ℕ) (channels : List (ℕ × Kind)) → lookup (nat_eq id) channels ≡ None → is_among id (ids_in channels) ≡ false
-unlooked id [] h = refl
-unlooked id ((x, kind) ∷ channels) h = by_test (eqb id x) refl h (unlooked id channels) where
-  by_test : (b : Bool) → eqb id x ≡ b → cond b (Some kind) (lookup (nat_eq id) channels) ≡ None → (lookup (nat_eq id) channels ≡ None → is_among id (ids_in channels) ≡ false) → eqb x id || is_among id (ids_in channels) ≡ false
-  by_test true e k deeper = absurd (let no : Some kind ≡ None = k in cc)
-  by_test false e k deeper = ap (λ b. b || is_among id (ids_in channels)) (other_way id x e) ∙ deeper k
-
-neither_among : (id : ℕ) (xs ys : List ℕ) → is_among id xs ≡ false → is_among id ys ≡ false → is_among id (xs ++ ys) ≡ false
-neither_among id xs ys h k = among-append id xs ys ∙ ap (λ b. b || is_among id ys) h ∙ k
-
--- where requests don't list a channel, its id is not among theirs
-pub unlisted : (id : ℕ) (rs : List Request) (zs : List Kinds) → listed id (exchanges rs zs) ≡ None → is_among id (ids_of rs) ≡ false
-unlisted id [] zs h = refl
-unlisted id (r ∷ rs) [] h =
-    let n = neither (kind_in id r) (listed id (exchanges rs [])) h in neither_among id (ids_in r.channels) (ids_of rs) (unlooked id r.channels n.0) (unlisted id rs [] n.1)
-unlisted id (r ∷ rs) (z ∷ zs) h =
-    let n = neither (kind_in id r) (listed id (exchanges rs zs)) h in neither_among id (ids_in r.channels) (ids_of rs) (unlooked id r.channels n.0) (unlisted id rs zs n.1)
 
 -- ---- requests on the main stream are those that were made
 
@@ -120,33 +65,18 @@ lists_are role (t ▷ act) e = told_more (spoken role t) (on_main (adds role t a
 
 -- ---- each request is new
 
-abbrev pub AllOut : List ℕ → List ℕ → Type 0
-AllOut seen [] = Unit {0}
-AllOut seen (x ∷ xs) = (is_among x seen ≡ false) × AllOut seen xs
-
-out_more : (id : ℕ) (seen xs : List ℕ) → list_any (nat_eq id) xs ≡ false → AllOut seen xs → AllOut (id ∷ seen) xs
-out_more id seen [] h k = tt
-out_more id seen (x ∷ xs) h k = let n = either (eqb id x) (list_any (nat_eq id) xs) h in (ap (λ b. b || is_among x seen) n.0 ∙ k.0, out_more id seen xs n.1 k.1)
-
-out_all : (t : Trace Act) (seen ids : List ℕ) → ((id : ℕ) → listed id (made t) ≡ None → is_among id seen ≡ false) → MayMove t ids → AllOut seen ids
-out_all t seen [] h m = tt
-out_all t seen (id ∷ ids) h m = (h id m.1, out_all t seen ids h m.3)
-
-new_all : (t : Trace Act) (seen ids : List ℕ) → AllOut seen ids → MayMove t ids → EachNew seen ids
-new_all t seen [] h m = tt
-new_all t seen (id ∷ ids) h m = (h.0, new_all t (id ∷ seen) ids (out_more id seen ids m.2 h.1) m.3)
-
 frame_may : (role : Role) (t : Trace Act) (act : Act) (x : Heard) → EndOfActs role (t ▷ act) → Source role t act x → MayList (spoken role t) x
 frame_may role t _ _ e (begun r) = tt
 frame_may role t _ _ e (opens id name) = tt
 frame_may role t _ _ e (asks_for kind id cookie) = tt
 frame_may role t _ _ e (tells act id hr r) = tt
-frame_may role t _ _ e (syncs reliable lossy) =
-    let told = lists_are role t e.2 in
-    let seen = told_by listings (spoken role t) in
+frame_may Client t _ _ e (syncs reliable lossy) = absurd (let no : Client ≡ Server = e.1.0.0 in cc)
+frame_may Server t _ _ e (syncs reliable lossy) =
+    let told = lists_are Server t e.2 in
+    let seen = told_by listings (spoken Server t) in
     let may = e.1.0.1.may_move in
     let away = out_all t seen (reliable ++ lossy) (λ id h. ap (is_among id) told.ids_are ∙ unlisted id (all_told made_by t) _ h) may in
-    (subst (λ n. n < 256) (sym told.as_many) e.1.0.1.few, subst (EachNew seen) (sym (ids_made reliable lossy)) (new_all t seen (reliable ++ lossy) away may))
+    (subst (λ n. n < 256) (sym told.as_many) (few_made t reliable lossy e.2 e.1.0.1), subst (EachNew seen) (sym (ids_made reliable lossy)) (new_all t seen (reliable ++ lossy) away may))
 frame_may role t _ _ e (closes id) = tt
 frame_may role t _ _ e (answers named) = tt
 frame_may role t _ _ e (heard_capable pdu version s r) = tt

@@ -17,7 +17,7 @@ use Rattle.mt_endpoint.specs.Acts.{Act, Began, Opens, Sends, Takes, Asks, Attach
 use Rattle.mt_endpoint.specs.Channels.{table, is_open, is_ready, delivered, sent, message_to}
 use Rattle.mt_endpoint.specs.Tunnels.{Request, asked, is_attached, is_silent, is_live, refusal, answer, issued, link_of, same_kind}
 use Rattle.soft_sync.specs.Exchanges.{listed}
-use Rattle.mt_endpoint.specs.Moving.{outward, made, made_by, all_told}
+use Rattle.mt_endpoint.specs.Moving.{outward, made, all_told}
 use Rattle.mt_endpoint.specs.Writing.{spoken, carried}
 use Rattle.mt_endpoint.specs.Faults.{main_fault, tunnel_fault}
 use Rattle.mt_endpoint.specs.Growing.{grown}
@@ -64,7 +64,6 @@ HasTunnel t kind (id ∷ ids) = is_live Server kind t ≡ true
 
 -- (each request lists a channel that no earlier one did, so there are never more than 256)
 pub record IsMove (t : Trace Act) (reliable lossy : List ℕ) : Type 0 where
-  pub few : length (all_told made_by t) < 256
   pub some : 0 < length (reliable ++ lossy)
   pub may_move : MayMove t (reliable ++ lossy)
   pub reliable_is_open : HasTunnel t Reliable reliable
