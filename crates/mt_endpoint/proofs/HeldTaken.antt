@@ -67,11 +67,11 @@ abbrev pub OfTaken : Role → Trace Act → Option ℕ → Type 0
 OfTaken role t None = Unit {0}
 OfTaken role t (Some id) = is_taken_in (channel role id t) ≡ true
 
-taken_later : (role : Role) (t : Trace Act) (act : Act) → EndOfActs role (t ▷ act) → (id : Option ℕ) → OfTaken role t id → OfTaken role (t ▷ act) id
+pub taken_later : (role : Role) (t : Trace Act) (act : Act) → EndOfActs role (t ▷ act) → (id : Option ℕ) → OfTaken role t id → OfTaken role (t ▷ act) id
 taken_later role t act e None h = tt
 taken_later role t act e (Some id) h = taken_seen role id t act (seen role t act) (fits_act role t act e.1) e.2 h
 
-open_takes : (s : ChannelState) → is_open_in s ≡ true → is_taken_in s ≡ true
+pub open_takes : (s : ChannelState) → is_open_in s ≡ true → is_taken_in s ≡ true
 open_takes state.Unknown h = h
 open_takes state.Asked h = h
 open_takes state.Open h = refl

@@ -34,3 +34,7 @@ pub mod NextPiece
 pub mod MainData
 pub mod HeldTaken
 pub mod Released
+pub mod Filling
+pub mod Opening
+pub mod Ready
+pub mod Carrying

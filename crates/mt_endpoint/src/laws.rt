@@ -1,26 +1,27 @@
 //! Laws of an end, and of two.
 
-ghost use Rattle.std.specs.Prelude.{◌≡◌, ℕ, List, [], ◌∷◌, None, true, false};
+ghost use Rattle.std.specs.Prelude.{◌≡◌, ℕ, List, [], ◌∷◌, ◌++◌, None, true, false};
 ghost use Rattle.mt_base.specs.Trace.{Trace};
 ghost use Rattle.mt_base.specs.Ends.{other};
 ghost use Rattle.mt_base.specs.declared.kinds.Kind.TheVariants.{Reliable};
 ghost use Rattle.mt_base.specs.declared.kinds.Role.{Role};
 ghost use Rattle.mt_base.specs.declared.kinds.Role.TheVariants.{Client, Server};
 ghost use Rattle.dvc_pdus.specs.Value.{Pdu};
-ghost use Rattle.mt_endpoint.specs.Acts.{Act, Heard, Spoken};
+ghost use Rattle.mt_base.specs.Prefix.{IsPrefixOf};
+ghost use Rattle.mt_endpoint.specs.Acts.{Act, Heard, Spoken, Drawn};
 ghost use Rattle.mt_endpoint.specs.Alone.{EndOfActs};
 ghost use Rattle.mt_endpoint.specs.Channels.{is_closed};
 ghost use Rattle.mt_endpoint.specs.Holding.{Held, held, is_through, only};
 ghost use Rattle.mt_endpoint.specs.Orders.{AnswersFit, EachMay, MayAsk, MayCreate, MayList, MayTell, answers_of, told_by};
-ghost use Rattle.mt_endpoint.specs.Faults.{is_moved, is_moved_whole, late_fault, main_fault, release_fault, unknown_fault};
+ghost use Rattle.mt_endpoint.specs.Faults.{is_moved, is_moved_whole, late_fault, main_fault, release_fault, tunnel_fault, unknown_fault};
 ghost use Rattle.mt_endpoint.specs.Meeting.{Comes, Meet, is_control};
 ghost use Rattle.mt_endpoint.specs.Moving.{all_told, inward, read_by};
 ghost use Rattle.mt_endpoint.specs.Said.{Brings, Ends, said};
-ghost use Rattle.mt_endpoint.specs.World.{NetOfActs, SafeWay, side};
+ghost use Rattle.mt_endpoint.specs.World.{NetOfActs, SafeWay, draws, side};
 ghost use Rattle.mt_endpoint.specs.Fitting.{AreJoined, Fitting, HasLeft};
 ghost use Rattle.mt_endpoint.specs.Sessions.{AnswersInOrder, ClosesBehind, MovesTwice, PicksSome};
 ghost use Rattle.mt_endpoint.specs.Session.{Shows};
-ghost use Rattle.mt_endpoint.specs.Writing.{spoken};
+ghost use Rattle.mt_endpoint.specs.Writing.{carried, spoken};
 
 /// A session by hand, worked out on the definitions: a channel and a tunnel are created, the channel
 /// moves to the tunnel, and a message that came through the tunnel ahead of the word is held and then
@@ -136,4 +137,13 @@ pub fn no_release_is_a_fault()
 pub fn delivered_was_sent()
     ensures moment { (server client : Trace Act) → AreJoined server client → (id : ℕ) → SafeWay Client id server client × SafeWay Server id client server }
     ensures steps { (w : Trace (Role × Act)) → NetOfActs w → Fitting Server (side Server w) → Fitting Client (side Client w) → (id : ℕ) → SafeWay Client id (side Server w) (side Client w) × SafeWay Server id (side Client w) (side Server w) }
+{}
+
+/// No PDU that is pulled from the reliable tunnel is a fault: there is one create request and one answer
+/// to it (MS-RDPEMT sections 2.2.2.1 and 2.2.2.2), data stand behind the answer 0, and are for a channel
+/// that takes them (MS-RDPEDYC section 3.1.5.3). Each end has read and pulled a front of what the other
+/// has written, and the PDU is the next that is pulled.
+pub fn no_tunnel_pdu_is_a_fault()
+    ensures { (role : Role) (here there : Trace Act) (drawn : Drawn) → Meet role here there → HasLeft role here there
+        → IsPrefixOf (draws Reliable here ++ drawn ∷ []) (carried Reliable (other role) there) → tunnel_fault role here drawn ≡ None }
 {}
