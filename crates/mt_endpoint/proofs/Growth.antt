@@ -111,7 +111,7 @@ grown_keeps role t act =
 
 -- ---- two ends, step by step
 
-pick_front : {A : Type 0} (xs ys zs : List A) → IsPickOf xs ys → IsPrefixOf ys zs → IsPickOf xs zs
+pub pick_front : {A : Type 0} (xs ys zs : List A) → IsPickOf xs ys → IsPrefixOf ys zs → IsPickOf xs zs
 pick_front xs ys zs h k = pick-at (xs ++ []) xs (ys ++ k.0) zs (append-nil xs) (sym k.1) (pick-append xs ys [] k.0 h (pick-nothing k.0))
 
 -- the one that acts took what left the other, and what it leaves only grows

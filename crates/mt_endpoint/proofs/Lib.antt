@@ -38,3 +38,6 @@ pub mod Filling
 pub mod Opening
 pub mod Ready
 pub mod Carrying
+pub mod Freed
+pub mod Walking
+pub mod Together

@@ -17,7 +17,7 @@ ghost use Rattle.mt_endpoint.specs.Faults.{is_moved, is_moved_whole, late_fault,
 ghost use Rattle.mt_endpoint.specs.Meeting.{Comes, Meet, is_control};
 ghost use Rattle.mt_endpoint.specs.Moving.{all_told, inward, read_by};
 ghost use Rattle.mt_endpoint.specs.Said.{Brings, Ends, said};
-ghost use Rattle.mt_endpoint.specs.World.{NetOfActs, SafeWay, draws, side};
+ghost use Rattle.mt_endpoint.specs.World.{NetOfActs, Safe, SafeWay, draws, side};
 ghost use Rattle.mt_endpoint.specs.Fitting.{AreJoined, Fitting, HasLeft};
 ghost use Rattle.mt_endpoint.specs.Sessions.{AnswersInOrder, ClosesBehind, MovesTwice, PicksSome};
 ghost use Rattle.mt_endpoint.specs.Session.{Shows};
@@ -146,4 +146,13 @@ pub fn delivered_was_sent()
 pub fn no_tunnel_pdu_is_a_fault()
     ensures { (role : Role) (here there : Trace Act) (drawn : Drawn) → Meet role here there → HasLeft role here there
         → IsPrefixOf (draws Reliable here ++ drawn ∷ []) (carried Reliable (other role) there) → tunnel_fault role here drawn ≡ None }
+{}
+
+/// Two ends, step by step, each of which keeps what its calls ask for and takes what left the other. What
+/// is delivered on a channel was sent on it, as [`delivered_was_sent`] says, and no act meets a fault,
+/// neither as it is read nor as what is held is released. Each act of an end, those that others make due
+/// among them, stands where it may.
+pub fn two_ends()
+    ensures safe { (w : Trace (Role × Act)) → NetOfActs w → Safe w }
+    ensures ends { (w : Trace (Role × Act)) → NetOfActs w → EndOfActs Server (side Server w) × EndOfActs Client (side Client w) }
 {}
