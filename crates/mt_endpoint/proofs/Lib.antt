@@ -41,3 +41,4 @@ pub mod Carrying
 pub mod Freed
 pub mod Walking
 pub mod Together
+pub mod Playing

@@ -19,7 +19,7 @@ ghost use Rattle.mt_endpoint.specs.Moving.{all_told, inward, read_by};
 ghost use Rattle.mt_endpoint.specs.Said.{Brings, Ends, said};
 ghost use Rattle.mt_endpoint.specs.World.{NetOfActs, Safe, SafeWay, draws, side};
 ghost use Rattle.mt_endpoint.specs.Fitting.{AreJoined, Fitting, HasLeft};
-ghost use Rattle.mt_endpoint.specs.Sessions.{AnswersInOrder, ClosesBehind, MovesTwice, PicksSome};
+ghost use Rattle.mt_endpoint.specs.Sessions.{AnswersInOrder, ClosesBehind, MovesTwice, PicksSome, answered, both_moved, closed, lossy};
 ghost use Rattle.mt_endpoint.specs.Session.{Shows};
 ghost use Rattle.mt_endpoint.specs.Writing.{carried, spoken};
 
@@ -38,6 +38,15 @@ pub fn sessions_by_hand()
     ensures twice { MovesTwice }
     ensures waiting { AnswersInOrder }
     ensures lossy { PicksSome }
+{}
+
+/// The sessions of [`sessions_by_hand`] are of two ends that keep what their calls ask for, each of which
+/// takes what left the other: [`two_ends`] speaks of them.
+pub fn sessions_are_of_two_ends()
+    ensures close { NetOfActs closed }
+    ensures twice { NetOfActs both_moved }
+    ensures waiting { NetOfActs answered }
+    ensures lossy { NetOfActs lossy }
 {}
 
 /// On the main stream a server asks for a tunnel of each kind at most once, and a client asks for none;

@@ -15,5 +15,5 @@ pub use laws::{
     a_server_meets_no_fault, a_session_moves_a_channel, a_tunnel_is_asked_for_once,
     answers_fit_requests, capabilities_come_first_and_once, creations_come_first,
     delivered_was_sent, no_frame_is_a_fault, no_release_is_a_fault, no_tunnel_pdu_is_a_fault,
-    nothing_comes_too_late, sessions_by_hand, two_ends,
+    nothing_comes_too_late, sessions_are_of_two_ends, sessions_by_hand, two_ends,
 };
