@@ -7,11 +7,12 @@ use Rattle.mt_endpoint.specs.Acts.{Act}
 use Rattle.mt_endpoint.specs.Moving.{all_told, made_by, read_by}
 use Rattle.mt_base.specs.Prefix.{IsPrefixOf}
 use Rattle.mt_endpoint.specs.World.{hears, SafeWay}
-use Rattle.mt_endpoint.specs.Fitting.{AreJoined}
+use Rattle.mt_endpoint.specs.Meeting.{AreJoined}
 use Rattle.mt_endpoint.proofs.ChannelPdus.{spoken_pdus, spoken_pdus-append, out}
 use Rattle.mt_endpoint.proofs.Words.{requests_in, requests-append}
 use Rattle.mt_endpoint.proofs.Written.{words_are}
 use Rattle.mt_endpoint.proofs.Reading.{heard, heard_words}
+use Rattle.mt_endpoint.proofs.Late.{fitting}
 use Rattle.mt_endpoint.proofs.LossyWay.{one_way}
 
 -- the server made the requests that the client read
@@ -24,6 +25,6 @@ begun server client j =
 
 pub both_ways : (server client : Trace Act) → AreJoined server client → (id : ℕ) → SafeWay Client id server client × SafeWay Server id client server
 both_ways server client j id = (
-  one_way Client client server id (record { here_fits = j.client_fits; there_fits = j.server_fits; main = j.to_client.main; reliable = j.to_client.reliable; lossy = j.to_client.lossy; begin = tt }),
-  one_way Server server client id (record { here_fits = j.server_fits; there_fits = j.client_fits; main = j.to_server.main; reliable = j.to_server.reliable; lossy = j.to_server.lossy; begin = begun server client j }),
+  one_way Client client server id (record { here_fits = fitting Client client j.client_acts; there_fits = fitting Server server j.server_acts; main = j.to_client.main; reliable = j.to_client.reliable; lossy = j.to_client.lossy; begin = tt }),
+  one_way Server server client id (record { here_fits = fitting Server server j.server_acts; there_fits = fitting Client client j.client_acts; main = j.to_server.main; reliable = j.to_server.reliable; lossy = j.to_server.lossy; begin = begun server client j }),
 )

@@ -4,7 +4,7 @@ use Rattle.mt_base.specs.declared.kinds.Role.{Role}
 use Rattle.mt_base.specs.declared.kinds.Role.TheVariants.{Server, Client}
 use Rattle.mt_base.specs.declared.kinds.Kind.{Kind}
 use Rattle.mt_base.specs.declared.kinds.Kind.TheVariants.{Reliable, Lossy}
-use Rattle.mt_base.specs.Trace.{Trace, Start, ◌▷◌}
+use Rattle.mt_base.specs.Trace.{Trace, ◌▷◌}
 use Rattle.soft_sync.specs.Exchanges.{Request}
 use Rattle.mt_endpoint.specs.Acts.{Act, Answers, Releases, Discards}
 use Rattle.mt_endpoint.specs.Channels.{is_closed}
@@ -15,9 +15,8 @@ use Rattle.mt_endpoint.specs.Writing.{adds, on_main, into, spoken, carried}
 use Rattle.mt_endpoint.specs.Faults.{Why, release_fault}
 use Rattle.mt_endpoint.specs.Growing.{Grown, fine, answer_all, answered, released, release_all, freed, grown}
 use Rattle.mt_base.specs.Prefix.{IsPrefixOf, IsPickOf}
-use Rattle.mt_endpoint.specs.World.{heard_in, drawn_in, hears, draws, side, NetOfActs}
-use Rattle.mt_endpoint.specs.Fitting.{HasLeft}
-use Rattle.mt_base.proofs.Prefixes.{front-same, front-append, front-trans, front-at, pick-nothing, pick-append, pick-same, pick-at}
+use Rattle.mt_endpoint.specs.World.{heard_in, drawn_in, hears, draws}
+use Rattle.mt_base.proofs.Prefixes.{front-same, front-append, front-trans, pick-nothing, pick-append, pick-at}
 
 pub record Keeps (role : Role) (t v : Trace Act) : Type 0 where
   pub hears_are : hears v ≡ hears t
@@ -109,33 +108,6 @@ pub grown_keeps : (role : Role) (t : Trace Act) (act : Act) → Keeps role (t �
 grown_keeps role t act =
     keeps_then role (t ▷ act) (answered role (t ▷ act)) _ (answered_keeps role (t ▷ act)) (all_keep role (freed t act) (answered role (t ▷ act)))
 
--- ---- two ends, step by step
-
+-- what was picked from a front
 pub pick_front : {A : Type 0} (xs ys zs : List A) → IsPickOf xs ys → IsPrefixOf ys zs → IsPickOf xs zs
 pick_front xs ys zs h k = pick-at (xs ++ []) xs (ys ++ k.0) zs (append-nil xs) (sym k.1) (pick-append xs ys [] k.0 h (pick-nothing k.0))
-
--- the one that acts took what left the other, and what it leaves only grows
-pub came_to : (from role : Role) (here there : Trace Act) (act : Act) → HasLeft from there (here ▷ act) → HasLeft from there (grown role here act).acts
-came_to from role here there act h =
-    let k = grown_keeps role here act in record {
-      main = front-at (hears (here ▷ act)) (hears (grown role here act).acts) (spoken from there) (spoken from there) (sym k.hears_are) refl h.main;
-      reliable = front-at (draws Reliable (here ▷ act)) (draws Reliable (grown role here act).acts) (carried Reliable from there) (carried Reliable from there) (sym (k.draws_are Reliable)) refl h.reliable;
-      lossy = pick-at (draws Lossy (here ▷ act)) (draws Lossy (grown role here act).acts) (carried Lossy from there) (carried Lossy from there) (sym (k.draws_are Lossy)) refl h.lossy;
-    }
-
-pub left_by : (role : Role) (here there : Trace Act) (act : Act) → HasLeft role here there → HasLeft role (grown role here act).acts there
-left_by role here there act h =
-    let k = grown_keeps role here act in record {
-      main = front-trans (hears there) (spoken role here) (spoken role (grown role here act).acts) h.main (front-trans (spoken role here) (spoken role (here ▷ act)) (spoken role (grown role here act).acts) (front-append (spoken role here) (on_main (adds role here act))) k.spoken_more);
-      reliable = front-trans (draws Reliable there) (carried Reliable role here) (carried Reliable role (grown role here act).acts) h.reliable (front-trans (carried Reliable role here) (carried Reliable role (here ▷ act)) (carried Reliable role (grown role here act).acts) (front-append (carried Reliable role here) (into Reliable (is_silent Reliable here) (adds role here act))) (k.carried_more Reliable));
-      lossy = pick_front (draws Lossy there) (carried Lossy role here) (carried Lossy role (grown role here act).acts) h.lossy (front-trans (carried Lossy role here) (carried Lossy role (here ▷ act)) (carried Lossy role (grown role here act).acts) (front-append (carried Lossy role here) (into Lossy (is_silent Lossy here) (adds role here act))) (k.carried_more Lossy));
-    }
-
-pub both_left : (w : Trace (Role × Act)) → NetOfActs w → HasLeft Server (side Server w) (side Client w) × HasLeft Client (side Client w) (side Server w)
-both_left Start n = (record { main = ([], refl); reliable = ([], refl); lossy = pick-same [] }, record { main = ([], refl); reliable = ([], refl); lossy = pick-same [] })
-both_left (w ▷ (Server, act)) n =
-    let before = both_left w n.3 in
-    (left_by Server (side Server w) (side Client w) act before.0, came_to Client Server (side Server w) (side Client w) act (record { main = n.2.0; reliable = n.2.1; lossy = n.2.2 }))
-both_left (w ▷ (Client, act)) n =
-    let before = both_left w n.3 in
-    (came_to Server Client (side Client w) (side Server w) act (record { main = n.2.0; reliable = n.2.1; lossy = n.2.2 }), left_by Client (side Client w) (side Server w) act before.1)

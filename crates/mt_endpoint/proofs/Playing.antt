@@ -1,10 +1,7 @@
 -- The sessions by hand are sessions of two ends that keep what their calls ask for.
-use Rattle.std.proofs.Common.{◌≡◌, ℕ, ◌<◌, ◌≤◌, Bool, true, false, List, [], ◌∷◌, ◌++◌, length, None, Some, All, refl, arith}
+use Rattle.std.proofs.Common.{[], ◌∷◌, refl, arith}
 use Rattle.std.proofs.lemmas.List.Elements.{All-nil, All-cons}
 use Rattle.mt_base.specs.declared.kinds.Kind.TheVariants.{Reliable, Lossy}
-use Rattle.mt_base.specs.declared.kinds.Role.{Role}
-use Rattle.mt_base.specs.declared.kinds.Role.TheVariants.{Server, Client}
-use Rattle.mt_base.specs.Trace.{Trace, Start, ◌▷◌}
 use Rattle.mt_base.specs.Prefix.{none, taken, passed}
 use Rattle.dvc_pdus.specs.Value.{IsNameByte, IsName}
 use Rattle.tunnel_cookies.specs.Entries.{unspent, spent_by, again, opened as opened_first}

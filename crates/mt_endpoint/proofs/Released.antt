@@ -21,8 +21,7 @@ use Rattle.mt_endpoint.specs.Holding.{Held, held, only, is_of, channel_in, is_th
 use Rattle.mt_endpoint.specs.Faults.{data_fault, release_fault, release_fault_of}
 use Rattle.mt_base.specs.Prefix.{IsPrefixOf}
 use Rattle.mt_endpoint.specs.World.{sent_on}
-use Rattle.mt_endpoint.specs.Fitting.{HasLeft}
-use Rattle.mt_endpoint.specs.Meeting.{Meet}
+use Rattle.mt_endpoint.specs.Meeting.{HasLeft, Meet}
 use Rattle.mt_endpoint.proofs.ChannelPdus.{of, is_mine, brings_to, pieces, pieces-append, pieces-of, out}
 use Rattle.mt_endpoint.proofs.HeldPdus.{pdus}
 use Rattle.mt_endpoint.proofs.Items.{is_at}

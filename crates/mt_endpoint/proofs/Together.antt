@@ -10,7 +10,6 @@ use Rattle.mt_endpoint.specs.Holding.{is_through}
 use Rattle.mt_endpoint.specs.World.{IsStep, HasCome, NetOfActs, Faultless, Safe, fault_of, side, is_begun, begins}
 use Rattle.mt_endpoint.specs.Alone.{IsAct, EndOfActs}
 use Rattle.mt_base.proofs.Prefixes.{pick-same}
-use Rattle.mt_endpoint.proofs.Late.{fitting}
 use Rattle.mt_endpoint.proofs.MainData.{frame_fine}
 use Rattle.mt_endpoint.proofs.BothWays.{both_ways}
 use Rattle.mt_endpoint.proofs.Carrying.{tunnel_fine}
@@ -71,7 +70,7 @@ net_is_safe w n =
     let t = together w n in
     let s = side Server w in
     let c = side Client w in
-    let both = both_ways s c (record { server_fits = fitting Server s t.place.here_acts; client_fits = fitting Client c t.place.there_acts; to_client = t.place.left; to_server = t.place.came }) in
+    let both = both_ways s c (record { server_acts = t.place.here_acts; client_acts = t.place.there_acts; to_client = t.place.left; to_server = t.place.came }) in
     record { to_client = λ id. (both id).0; to_server = λ id. (both id).1; faultless = t.faultless }
 
 pub both_keep : (w : Trace (Role × Act)) → NetOfActs w → EndOfActs Server (side Server w) × EndOfActs Client (side Client w)

@@ -21,8 +21,7 @@ use Rattle.mt_endpoint.specs.Faults.{Why, release_fault}
 use Rattle.mt_endpoint.specs.Growing.{Grown, fine, answer_all, answered, released, release_all}
 use Rattle.mt_endpoint.specs.World.{is_begun, begins, heard_in, drawn_in, hears, draws}
 use Rattle.mt_endpoint.specs.Alone.{IsAnswer, IsDue, IsDropped, EndOfActs}
-use Rattle.mt_endpoint.specs.Fitting.{HasLeft}
-use Rattle.mt_endpoint.specs.Meeting.{Meet}
+use Rattle.mt_endpoint.specs.Meeting.{HasLeft, Meet}
 use Rattle.mt_base.proofs.Prefixes.{front-append, front-trans, front-at, pick-at}
 use Rattle.mt_endpoint.proofs.HeldPdus.{first_gone, first_is_of, ended_apart}
 use Rattle.mt_endpoint.proofs.Tables.{not_closed_said}

@@ -12,5 +12,4 @@ pub mod Alone
 pub mod Orders
 pub mod Session
 pub mod Meeting
-pub mod Fitting
 pub mod Sessions

@@ -14,11 +14,10 @@ ghost use Rattle.mt_endpoint.specs.Channels.{is_closed};
 ghost use Rattle.mt_endpoint.specs.Holding.{Held, held, is_through, only};
 ghost use Rattle.mt_endpoint.specs.Orders.{AnswersFit, EachMay, MayAsk, MayCreate, MayList, MayTell, answers_of, told_by};
 ghost use Rattle.mt_endpoint.specs.Faults.{is_moved, is_moved_whole, late_fault, main_fault, release_fault, tunnel_fault, unknown_fault};
-ghost use Rattle.mt_endpoint.specs.Meeting.{Comes, Meet, is_control};
+ghost use Rattle.mt_endpoint.specs.Meeting.{AreJoined, Comes, HasLeft, Meet, is_control};
 ghost use Rattle.mt_endpoint.specs.Moving.{all_told, inward, read_by};
 ghost use Rattle.mt_endpoint.specs.Said.{Brings, Ends, said};
 ghost use Rattle.mt_endpoint.specs.World.{NetOfActs, Safe, SafeWay, draws, side};
-ghost use Rattle.mt_endpoint.specs.Fitting.{AreJoined, Fitting, HasLeft};
 ghost use Rattle.mt_endpoint.specs.Sessions.{AnswersInOrder, ClosesBehind, MovesTwice, PicksSome, answered, both_moved, closed, lossy};
 ghost use Rattle.mt_endpoint.specs.Session.{Shows};
 ghost use Rattle.mt_endpoint.specs.Writing.{carried, spoken};
@@ -141,11 +140,10 @@ pub fn no_release_is_a_fault()
 /// delivered on a channel is the front of what the other end sent. Where the sender moved the channel
 /// to the lossy tunnel, it is the front of what was sent before that, or all of that and then some of
 /// what was sent afterwards, in order. This holds in both directions, across the move, with what is
-/// held ahead of its word, a close behind it, and requests that wait for their answer. Two ends, step by
-/// step, are such ends at each place where no act has met a fault.
+/// held ahead of its word, a close behind it, and requests that wait for their answer.
 pub fn delivered_was_sent()
-    ensures moment { (server client : Trace Act) → AreJoined server client → (id : ℕ) → SafeWay Client id server client × SafeWay Server id client server }
-    ensures steps { (w : Trace (Role × Act)) → NetOfActs w → Fitting Server (side Server w) → Fitting Client (side Client w) → (id : ℕ) → SafeWay Client id (side Server w) (side Client w) × SafeWay Server id (side Client w) (side Server w) }
+    ensures { (server client : Trace Act) → AreJoined server client → (id : ℕ)
+        → SafeWay Client id server client × SafeWay Server id client server }
 {}
 
 /// No PDU that is pulled from the reliable tunnel is a fault: there is one create request and one answer
