@@ -4,8 +4,9 @@
 //! is at fault for are functions of that list. The code of an end is still to come.
 //!
 //! Below it stand `dvc_channels`, `dvc_pdus`, `tunnel_pdus`, `tunnel_cookies` and `soft_sync`, whose
-//! definitions it joins. What the crates above will use is that what is delivered on a channel was
-//! sent, in order and each once, also across the channel's move ([`delivered_was_sent`]).
+//! definitions it joins. What the crates above will use is the law of two ends: what is delivered on a
+//! channel was sent, in order and each once, also across the channel's move, and neither end meets a
+//! fault of the other ([`two_ends`]).
 #![tactic(auto)]
 
 mod laws;
