@@ -42,3 +42,6 @@ pub mod Freed
 pub mod Walking
 pub mod Together
 pub mod Playing
+pub mod Spending
+pub mod AskedFor
+pub mod Apart

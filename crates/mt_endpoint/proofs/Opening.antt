@@ -140,11 +140,11 @@ answer_first (t ▷ act) =
 
 -- ---- where it is open, and the link is not closed, the server answered 0
 
-or_back : (a b : Bool) → b ≡ true → a || b ≡ true
+pub or_back : (a b : Bool) → b ≡ true → a || b ≡ true
 or_back true b h = refl
 or_back false b h = h
 
-either_true : (a b : Bool) → a || b ≡ true → (a ≡ true) ⊎ (b ≡ true)
+pub either_true : (a b : Bool) → a || b ≡ true → (a ≡ true) ⊎ (b ≡ true)
 either_true true b h = inl refl
 either_true false b h = inr h
 

@@ -149,7 +149,7 @@ of_channel : (id : ℕ) (channel : Option ℕ) → is_of id channel ≡ true →
 of_channel id None h = absurd (let no : false ≡ true = h in cc)
 of_channel id (Some made) h = ap (λ x. Some x) (eqb-true made id h)
 
-same_itself : (kind : Kind) → same_kind kind kind ≡ true
+pub same_itself : (kind : Kind) → same_kind kind kind ≡ true
 same_itself Reliable = refl
 same_itself Lossy = refl
 

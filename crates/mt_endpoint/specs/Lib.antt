@@ -13,3 +13,4 @@ pub mod Orders
 pub mod Session
 pub mod Meeting
 pub mod Sessions
+pub mod Asking

@@ -1,15 +1,17 @@
 //! Laws of an end, and of two.
 
-ghost use Rattle.std.specs.Prelude.{◌≡◌, ℕ, List, [], ◌∷◌, ◌++◌, None, true, false};
+ghost use Rattle.std.specs.Prelude.{◌≡◌, ◌≢◌, ℕ, List, [], ◌∷◌, ◌++◌, None, Some, true, false};
 ghost use Rattle.mt_base.specs.Trace.{Trace};
 ghost use Rattle.mt_base.specs.Ends.{other};
-ghost use Rattle.mt_base.specs.declared.kinds.Kind.TheVariants.{Reliable};
+ghost use Rattle.mt_base.specs.declared.kinds.Kind.{Kind};
+ghost use Rattle.mt_base.specs.declared.kinds.Kind.TheVariants.{Lossy, Reliable};
 ghost use Rattle.mt_base.specs.declared.kinds.Role.{Role};
 ghost use Rattle.mt_base.specs.declared.kinds.Role.TheVariants.{Client, Server};
 ghost use Rattle.dvc_pdus.specs.Value.{Pdu};
 ghost use Rattle.mt_base.specs.Prefix.{IsPrefixOf};
 ghost use Rattle.mt_endpoint.specs.Acts.{Act, Heard, Spoken, Drawn};
 ghost use Rattle.mt_endpoint.specs.Alone.{EndOfActs};
+ghost use Rattle.mt_endpoint.specs.Asking.{WasAskedFor};
 ghost use Rattle.mt_endpoint.specs.Channels.{is_closed};
 ghost use Rattle.mt_endpoint.specs.Holding.{Held, held, is_through, only};
 ghost use Rattle.mt_endpoint.specs.Orders.{AnswersFit, EachMay, MayAsk, MayCreate, MayList, MayTell, answers_of, told_by};
@@ -20,6 +22,7 @@ ghost use Rattle.mt_endpoint.specs.Said.{Brings, Ends, said};
 ghost use Rattle.mt_endpoint.specs.World.{NetOfActs, Safe, SafeWay, draws, side};
 ghost use Rattle.mt_endpoint.specs.Sessions.{AnswersInOrder, ClosesBehind, MovesTwice, PicksSome, answered, both_moved, closed, lossy};
 ghost use Rattle.mt_endpoint.specs.Session.{Shows};
+ghost use Rattle.mt_endpoint.specs.Tunnels.{Request, asked, is_open};
 ghost use Rattle.mt_endpoint.specs.Writing.{carried, spoken};
 
 /// A session by hand, worked out on the definitions: a channel and a tunnel are created, the channel
@@ -162,4 +165,14 @@ pub fn no_tunnel_pdu_is_a_fault()
 pub fn two_ends()
     ensures safe { (w : Trace (Role × Act)) → NetOfActs w → Safe w }
     ensures ends { (w : Trace (Role × Act)) → NetOfActs w → EndOfActs Server (side Server w) × EndOfActs Client (side Client w) }
+{}
+
+/// A tunnel that is open at either end was asked for: the server asked for a tunnel of its kind, and
+/// pulled from its link a create request with the id and the cookie that it had asked for (MS-RDPEMT
+/// section 2.2.2.1). The tunnels of the two kinds are asked for under different ids.
+pub fn an_open_tunnel_was_asked_for()
+    ensures open_one { (w : Trace (Role × Act)) → NetOfActs w → (role : Role) (kind : Kind)
+        → is_open role kind (side role w) ≡ true → WasAskedFor kind (side Server w) }
+    ensures apart { (w : Trace (Role × Act)) → NetOfActs w → (one second : Request)
+        → asked Reliable (side Server w) ≡ Some one → asked Lossy (side Server w) ≡ Some second → one.id ≢ second.id }
 {}
