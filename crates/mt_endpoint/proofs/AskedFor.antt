@@ -28,9 +28,9 @@ use Rattle.mt_base.proofs.Prefixes.{front-append, pick-same, pick-nothing, pick-
 use Rattle.mt_endpoint.proofs.Known.{among-append, or_front}
 use Rattle.mt_endpoint.proofs.Opening.{codes, codes-append, or_back, either_true}
 use Rattle.mt_endpoint.proofs.Growth.{pick_front}
-use Rattle.mt_endpoint.proofs.Walking.{Place, same_itself}
+use Rattle.mt_endpoint.proofs.Walking.{same_itself}
 use Rattle.mt_endpoint.proofs.Spending.{asked_later, again_opened, opened_asked}
-use Rattle.mt_endpoint.proofs.Together.{together}
+use Rattle.mt_endpoint.proofs.Together.{Place, together}
 
 -- ---- the codes that a server writes
 

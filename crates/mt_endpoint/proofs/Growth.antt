@@ -24,10 +24,10 @@ pub record Keeps (role : Role) (t v : Trace Act) : Type 0 where
   pub spoken_more : IsPrefixOf (spoken role t) (spoken role v)
   pub carried_more : (kind : Kind) → IsPrefixOf (carried kind role t) (carried kind role v)
 
-keeps_same : (role : Role) (t : Trace Act) → Keeps role t t
+pub keeps_same : (role : Role) (t : Trace Act) → Keeps role t t
 keeps_same role t = record { hears_are = refl; draws_are = λ kind. refl; spoken_more = front-same (spoken role t); carried_more = λ kind. front-same (carried kind role t) }
 
-keeps_then : (role : Role) (t v u : Trace Act) → Keeps role t v → Keeps role v u → Keeps role t u
+pub keeps_then : (role : Role) (t v u : Trace Act) → Keeps role t v → Keeps role v u → Keeps role t u
 keeps_then role t v u h k = record {
   hears_are = k.hears_are ∙ h.hears_are;
   draws_are = λ kind. k.draws_are kind ∙ h.draws_are kind;
@@ -35,7 +35,7 @@ keeps_then role t v u h k = record {
   carried_more = λ kind. front-trans (carried kind role t) (carried kind role v) (carried kind role u) (h.carried_more kind) (k.carried_more kind);
 }
 
-keeps_one : (role : Role) (t : Trace Act) (act : Act) → heard_in act ≡ [] → ((kind : Kind) → drawn_in kind act ≡ []) → Keeps role t (t ▷ act)
+pub keeps_one : (role : Role) (t : Trace Act) (act : Act) → heard_in act ≡ [] → ((kind : Kind) → drawn_in kind act ≡ []) → Keeps role t (t ▷ act)
 keeps_one role t act h d = record {
   hears_are = ap (λ l. hears t ++ l) h ∙ append-nil (hears t);
   draws_are = λ kind. ap (λ l. draws kind t ++ l) (d kind) ∙ append-nil (draws kind t);

@@ -1,6 +1,6 @@
 //! Laws of an end, and of two.
 
-ghost use Rattle.std.specs.Prelude.{◌≡◌, ◌≢◌, ℕ, List, [], ◌∷◌, ◌++◌, None, Some, true, false};
+ghost use Rattle.std.specs.Prelude.{◌≡◌, ◌≢◌, ℕ, List, [], ◌∷◌, ◌++◌, None, Some, not, true, false};
 ghost use Rattle.mt_base.specs.Trace.{Trace};
 ghost use Rattle.mt_base.specs.Ends.{other};
 ghost use Rattle.mt_base.specs.declared.kinds.Kind.{Kind};
@@ -16,10 +16,11 @@ ghost use Rattle.mt_endpoint.specs.Channels.{is_closed};
 ghost use Rattle.mt_endpoint.specs.Holding.{Held, held, is_through, only};
 ghost use Rattle.mt_endpoint.specs.Orders.{AnswersFit, EachMay, MayAsk, MayCreate, MayList, MayTell, answers_of, told_by};
 ghost use Rattle.mt_endpoint.specs.Faults.{is_moved, is_moved_whole, late_fault, main_fault, release_fault, tunnel_fault, unknown_fault};
+ghost use Rattle.mt_endpoint.specs.Growing.{grown};
 ghost use Rattle.mt_endpoint.specs.Meeting.{AreJoined, Comes, HasLeft, Meet, is_control};
 ghost use Rattle.mt_endpoint.specs.Moving.{all_told, inward, read_by};
 ghost use Rattle.mt_endpoint.specs.Said.{Brings, Ends, said};
-ghost use Rattle.mt_endpoint.specs.World.{NetOfActs, Safe, SafeWay, draws, side};
+ghost use Rattle.mt_endpoint.specs.World.{IsStep, NetOfActs, Safe, SafeWay, begins, draws, fault_of, is_begun, side};
 ghost use Rattle.mt_endpoint.specs.Sessions.{AnswersInOrder, ClosesBehind, MovesTwice, PicksSome, answered, both_moved, closed, lossy};
 ghost use Rattle.mt_endpoint.specs.Session.{Shows};
 ghost use Rattle.mt_endpoint.specs.Tunnels.{Request, asked, is_open};
@@ -49,6 +50,14 @@ pub fn sessions_are_of_two_ends()
     ensures twice { NetOfActs both_moved }
     ensures waiting { NetOfActs answered }
     ensures lossy { NetOfActs lossy }
+{}
+
+/// An end by itself, whatever the other end does. After a step that keeps what its call asks for, and of
+/// which what is read has no fault, each act stands where it may, those that it makes due among them.
+/// That holds also where a release meets a fault, with the acts up to that fault.
+pub fn an_end_keeps_its_law()
+    ensures { (role : Role) (t : Trace Act) (act : Act) → EndOfActs role t → begins act ≡ not (is_begun t)
+        → IsStep role t act → fault_of role t act → EndOfActs role (grown role t act).acts }
 {}
 
 /// On the main stream a server asks for a tunnel of each kind at most once, and a client asks for none;

@@ -14,8 +14,8 @@ mod laws;
 pub use laws::{
     a_channel_is_listed_once, a_client_meets_no_fault, a_close_is_no_fault,
     a_server_meets_no_fault, a_session_moves_a_channel, a_tunnel_is_asked_for_once,
-    an_open_tunnel_was_asked_for, answers_fit_requests, capabilities_come_first_and_once,
-    creations_come_first, delivered_was_sent, no_frame_is_a_fault, no_release_is_a_fault,
-    no_tunnel_pdu_is_a_fault, nothing_comes_too_late, sessions_are_of_two_ends, sessions_by_hand,
-    two_ends,
+    an_end_keeps_its_law, an_open_tunnel_was_asked_for, answers_fit_requests,
+    capabilities_come_first_and_once, creations_come_first, delivered_was_sent,
+    no_frame_is_a_fault, no_release_is_a_fault, no_tunnel_pdu_is_a_fault, nothing_comes_too_late,
+    sessions_are_of_two_ends, sessions_by_hand, two_ends,
 };
