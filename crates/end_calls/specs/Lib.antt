@@ -4,4 +4,5 @@ pub mod Stops
 pub mod Law
 pub mod Links
 pub mod Net
+pub mod Refusing
 pub mod Example

@@ -8,6 +8,7 @@
 mod fault;
 mod laws;
 mod limits;
+mod refusal;
 
 pub use fault::{Fault, Place};
 pub use laws::{
@@ -16,3 +17,4 @@ pub use laws::{
 pub use limits::{
     ANSWER, CONTROL, HELD_PDU, HOLD, INBOX, LOSSY_MESSAGE, MAIN_QUEUE, MESSAGE, RESERVE,
 };
+pub use refusal::{AskRefusal, CloseRefusal, MoveRefusal, OpenRefusal, SendRefusal};
