@@ -69,7 +69,7 @@ held_open role Reliable t id bytes pdu queue h k = for_open role t id (channel_o
 held_open role Lossy t id bytes pdu queue h k = lone_open role t id bytes pdu queue h k
 
 -- pulling a PDU that is not held for the channel
-draw_none : (role : Role) (id : ℕ) (t : Trace Act) (kind made : Kind) (at : ℕ) (bytes : List ℕ) (pdu : Pdu) (queue : List Held) → (same_kind kind made ≡ true → is_held role kind t bytes pdu queue ≡ true → is_mine id pdu ≡ false)
+pub draw_none : (role : Role) (id : ℕ) (t : Trace Act) (kind made : Kind) (at : ℕ) (bytes : List ℕ) (pdu : Pdu) (queue : List Held) → (same_kind kind made ≡ true → is_held role kind t bytes pdu queue ≡ true → is_mine id pdu ≡ false)
     → only id queue ≡ [] → only id (held_after role kind t (Draws made at (Carried bytes pdu)) queue) ≡ []
 draw_none role id t kind made at bytes pdu queue not_mine none = by_kind (same_kind kind made) refl where
   by_test : (b : Bool) → (b ≡ true → is_mine id pdu ≡ false) → only id (cond b (queue ++ record { at = at; bytes = bytes; pdu = pdu } ∷ []) queue) ≡ []
@@ -83,7 +83,7 @@ draw_none role id t kind made at bytes pdu queue not_mine none = by_kind (same_k
   by_kind false e = none
 
 -- where nothing of a channel is held, only a PDU that is pulled changes that
-held_none : (role : Role) (id : ℕ) (kind : Kind) (t : Trace Act) (act : Act) → Seen role t act → ((made : Kind) (at : ℕ) (bytes : List ℕ) (pdu : Pdu) → act ≡ Draws made at (Carried bytes pdu) → same_kind kind made ≡ true → is_held role kind t bytes pdu (held role kind t) ≡ true → is_mine id pdu ≡ false)
+pub held_none : (role : Role) (id : ℕ) (kind : Kind) (t : Trace Act) (act : Act) → Seen role t act → ((made : Kind) (at : ℕ) (bytes : List ℕ) (pdu : Pdu) → act ≡ Draws made at (Carried bytes pdu) → same_kind kind made ≡ true → is_held role kind t bytes pdu (held role kind t) ≡ true → is_mine id pdu ≡ false)
     → only id (held role kind t) ≡ [] → only id (held role kind (t ▷ act)) ≡ []
 held_none role id kind t _ (hears_it pdu) h none = none_ended id (said pdu) (held role kind t) none
 held_none role id kind t _ (draws_it made at bytes pdu) h none = draw_none role id t kind made at bytes pdu (held role kind t) (h made at bytes pdu refl) none

@@ -56,7 +56,7 @@ first_gone id (h ∷ queue) x rest e = by_test (held_of id h) refl e (first_gone
   by_test true e k deeper = cc
   by_test false e k deeper = ap (λ b. cond b (h ∷ only id (without_first (Some id) queue)) (only id (without_first (Some id) queue))) e ∙ deeper k
 
-none_left : (id : ℕ) (queue : List Held) → only id (without id queue) ≡ []
+pub none_left : (id : ℕ) (queue : List Held) → only id (without id queue) ≡ []
 none_left id [] = refl
 none_left id (h ∷ queue) = by_test (held_of id h) refl (none_left id queue) where
   by_test : (b : Bool) → held_of id h ≡ b → only id (without id queue) ≡ [] → only id (cond b (without id queue) (h ∷ without id queue)) ≡ []

@@ -41,7 +41,7 @@ moved_through : (kind : Kind) (path : Path) → is_through kind path ≡ true �
 moved_through kind Main h = absurd (let no : false ≡ true = h in cc)
 moved_through kind (Tunnel made) h = refl
 
-fewer : (rs : List Request) (zs : List Kinds) (r : Request) (rest : List Request) → unanswered_in (exchanges rs zs) ≡ r ∷ rest → length zs < length rs
+pub fewer : (rs : List Request) (zs : List Kinds) (r : Request) (rest : List Request) → unanswered_in (exchanges rs zs) ≡ r ∷ rest → length zs < length rs
 fewer [] zs r rest h = absurd (let no : [] ≡ r ∷ rest = h in cc)
 fewer (x ∷ rs) [] r rest h = omega arith
 fewer (x ∷ rs) (z ∷ zs) r rest h = let n = fewer rs zs r rest h in omega (arith, n)

@@ -39,9 +39,11 @@ pub mod Opening
 pub mod Ready
 pub mod Carrying
 pub mod Freed
+pub mod ClosedHeld
 pub mod Walking
 pub mod Together
 pub mod Playing
 pub mod Spending
 pub mod AskedFor
 pub mod Apart
+pub mod Resting

@@ -14,3 +14,4 @@ pub mod Session
 pub mod Meeting
 pub mod Sessions
 pub mod Asking
+pub mod Resting

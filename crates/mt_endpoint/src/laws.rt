@@ -19,6 +19,7 @@ ghost use Rattle.mt_endpoint.specs.Faults.{is_moved, is_moved_whole, late_fault,
 ghost use Rattle.mt_endpoint.specs.Growing.{grown};
 ghost use Rattle.mt_endpoint.specs.Meeting.{AreJoined, Comes, HasLeft, Meet, is_control};
 ghost use Rattle.mt_endpoint.specs.Moving.{all_told, inward, read_by};
+ghost use Rattle.mt_endpoint.specs.Resting.{Rests};
 ghost use Rattle.mt_endpoint.specs.Said.{Brings, Ends, said};
 ghost use Rattle.mt_endpoint.specs.World.{IsStep, NetOfActs, Safe, SafeWay, begins, draws, fault_of, is_begun, side};
 ghost use Rattle.mt_endpoint.specs.Sessions.{AnswersInOrder, ClosesBehind, MovesTwice, PicksSome, answered, both_moved, closed, lossy};
@@ -58,6 +59,13 @@ pub fn sessions_are_of_two_ends()
 pub fn an_end_keeps_its_law()
     ensures { (role : Role) (t : Trace Act) (act : Act) → EndOfActs role t → begins act ≡ not (is_begun t)
         → IsStep role t act → fault_of role t act → EndOfActs role (grown role t act).acts }
+{}
+
+/// Between the steps of an end nothing is held of a channel whose word is read, as long as none of them
+/// has met a fault: what is pulled behind the word is released at once.
+pub fn nothing_rests_behind_its_word()
+    ensures { (role : Role) (t : Trace Act) (act : Act) → EndOfActs role t → begins act ≡ not (is_begun t)
+        → IsStep role t act → fault_of role t act → Rests role t → (grown role t act).fault ≡ None → Rests role (grown role t act).acts }
 {}
 
 /// On the main stream a server asks for a tunnel of each kind at most once, and a client asks for none;

@@ -17,5 +17,5 @@ pub use laws::{
     an_end_keeps_its_law, an_open_tunnel_was_asked_for, answers_fit_requests,
     capabilities_come_first_and_once, creations_come_first, delivered_was_sent,
     no_frame_is_a_fault, no_release_is_a_fault, no_tunnel_pdu_is_a_fault, nothing_comes_too_late,
-    sessions_are_of_two_ends, sessions_by_hand, two_ends,
+    nothing_rests_behind_its_word, sessions_are_of_two_ends, sessions_by_hand, two_ends,
 };
