@@ -47,5 +47,9 @@ shown = record {
   is_open = refl;
   told = refl;
   law = law;
+  counted = refl;
+  unknown = refl;
+  not_ready = refl;
+  no_version = refl;
   broken = refl;
 }

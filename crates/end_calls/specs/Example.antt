@@ -9,13 +9,19 @@ use Rattle.carrier.specs.Entries.{Gave}
 use Rattle.dvc_pdus.specs.Value.{Caps}
 use Rattle.tunnel_pdus.specs.declared.part.TunnelReason.TheVariants.{BadKind}
 use Rattle.mt_endpoint.specs.Acts.{Began, Attaches, Hears, Spoken}
-use Rattle.mt_endpoint.specs.Session.{cookie}
+use Rattle.mt_endpoint.specs.Session.{cookie, name}
+use Rattle.soft_sync.specs.declared.kinds.SyncRefusal.TheVariants as sync
 use Rattle.mt_endpoint.specs.Tunnels.{tunnel, Open}
 use Rattle.end_calls.specs.declared.fault.Fault.TheVariants as fault
 use Rattle.end_calls.specs.declared.fault.Place.TheVariants as place
 use Rattle.end_calls.specs.Calls.{Entry, Own, MainIn, WireIn, Pull, past, acts}
 use Rattle.end_calls.specs.Law.{EndTrace, unsent}
 use Rattle.end_calls.specs.Links.{linked}
+use Rattle.end_calls.specs.Refusing.{Loads, why_not_opened, why_not_sent, why_not_moved}
+use Rattle.end_calls.specs.Counting.{counters}
+use Rattle.end_calls.specs.declared.refusal.SendRefusal.TheVariants as send
+use Rattle.end_calls.specs.declared.refusal.OpenRefusal.TheVariants as opening
+use Rattle.end_calls.specs.declared.refusal.MoveRefusal.TheVariants as move
 
 -- the first four bytes of a frame with capabilities of version 3, and the other eleven
 abbrev pub begun : Trace Entry
@@ -44,6 +50,9 @@ answered =
 abbrev pub wrong : Trace Entry
 wrong = answered ▷ MainIn (4 ∷ []) 1 0 None
 
+abbrev pub loads : Loads
+loads = record { unsent = 18; reliable = 28; lossy = 0 }
+
 pub record Shows : Type 0 where
   pub under_way : (past Client begun).main ≡ record { at = 0; bytes = 3 ∷ 12 ∷ 0 ∷ 0x50 ∷ [] }
   pub nothing_said : unsent Client begun ≡ []
@@ -55,4 +64,8 @@ pub record Shows : Type 0 where
   pub told : unsent Client answered
       ≡ 3 ∷ 4 ∷ 0 ∷ 0x50 ∷ 0 ∷ 3 ∷ 0 ∷ 2 ∷ 8 ∷ 0 ∷ 7 ∷ 0 ∷ 0 ∷ 0 ∷ 0 ∷ 0 ∷ 0 ∷ 0 ∷ []
   pub law : EndTrace Client answered
+  pub counted : counters Client answered ≡ record { ignored = 0; fec = 0; compressed = 0; lossy = 0; closed = 0 }
+  pub unknown : why_not_sent None Client (acts Client answered) loads 1 (97 ∷ []) ≡ Some send.UnknownChannel
+  pub not_ready : why_not_opened None (Start ▷ Began) 15 name ≡ Some opening.NotReady
+  pub no_version : why_not_moved None (Start ▷ Began) 15 (1 ∷ []) [] ≡ Some (move.Sync (sync.OldVersion 0))
   pub broken : (past Client wrong).broken ≡ Some (fault.Stream (place.Main 42) (record { at = 0; reason = BadKind }))

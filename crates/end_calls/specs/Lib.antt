@@ -5,4 +5,5 @@ pub mod Law
 pub mod Links
 pub mod Net
 pub mod Refusing
+pub mod Counting
 pub mod Example

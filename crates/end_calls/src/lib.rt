@@ -5,11 +5,13 @@
 //! Below it stand `mt_endpoint` with the acts, and `carrier` with what a link is.
 #![tactic(auto)]
 
+mod counters;
 mod fault;
 mod laws;
 mod limits;
 mod refusal;
 
+pub use counters::Counters;
 pub use fault::{Fault, Place};
 pub use laws::{
     a_client_in_bytes, cuts_do_not_matter, queues_keep_their_limits, verdicts_are_of_the_table,
