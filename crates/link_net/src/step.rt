@@ -14,9 +14,14 @@ pub enum Step<'a> {
     Uses(u32, &'a [u8]),
     /// At this moment this datagram comes, and is ignored for this reason.
     Ignores(u32, &'a [u8], Reason),
+    /// At this moment a datagram of 1,232 bytes comes that begins so and goes on with zeros, and is
+    /// used.
+    UsesFilled(u32, &'a [u8]),
+    /// At this moment such a datagram comes, and is ignored for this reason.
+    IgnoresFilled(u32, &'a [u8], Reason),
     /// At this moment the end sends just this datagram.
     Sends(u32, &'a [u8]),
-    /// At this moment the end sends a datagram that begins so and goes on with zeros, of 1,232 bytes.
+    /// At this moment the end sends just such a datagram of 1,232 bytes.
     SendsFilled(u32, &'a [u8]),
     /// At this moment the end sends so many datagrams, each of so many bytes.
     SendsMany(u32, usize, usize),
@@ -36,7 +41,7 @@ pub enum Step<'a> {
     Gives(usize, &'a [u8]),
     /// The end takes none of these bytes, for this reason.
     Refuses(&'a [u8], GiveRefusal),
-    /// Just these bytes, 64 at most, can be pulled.
+    /// Just these bytes, 4,096 at most, can be pulled.
     Pulls(&'a [u8]),
     /// So many bytes, 1,232 at most, are pulled.
     PullsMany(usize),
@@ -57,6 +62,12 @@ impl Step<'_> {
             Step::Uses(at, datagram) => link.input(u64::from(at), datagram) == Took::Used,
             Step::Ignores(at, datagram, reason) => {
                 link.input(u64::from(at), datagram) == Took::Ignored(reason)
+            }
+            Step::UsesFilled(at, front) => {
+                link.input(u64::from(at), &filled(front)) == Took::Used
+            }
+            Step::IgnoresFilled(at, front, reason) => {
+                link.input(u64::from(at), &filled(front)) == Took::Ignored(reason)
             }
             Step::Sends(at, datagram) => sends(link, u64::from(at), datagram),
             Step::SendsFilled(at, front) => sends_filled(link, u64::from(at), front),
@@ -89,6 +100,41 @@ pub fn play<C: Carrier>(link: &mut C, steps: &[Step]) -> Result<(), usize> {
     Ok(())
 }
 
+/// What is done with two ends, and how they answer.
+#[derive(Clone, Copy)]
+pub enum Turn<'a> {
+    /// This step is taken at the near end.
+    Near(Step<'a>),
+    /// This step is taken at the far end.
+    Far(Step<'a>),
+    /// What the near end sends at this moment comes to the far one at once, and is used.
+    There(u32),
+    /// What the far end sends at this moment comes to the near one at once, and is used.
+    Back(u32),
+}
+
+impl Turn<'_> {
+    /// Whether the ends answer so.
+    fn holds<C: Carrier>(&self, near: &mut C, far: &mut C) -> bool {
+        match self {
+            Turn::Near(step) => step.holds(near),
+            Turn::Far(step) => step.holds(far),
+            Turn::There(at) => carries(near, far, u64::from(*at)),
+            Turn::Back(at) => carries(far, near, u64::from(*at)),
+        }
+    }
+}
+
+/// Goes through these turns up to the first that does not hold; `Err` has its place.
+pub fn play_both<C: Carrier>(near: &mut C, far: &mut C, turns: &[Turn]) -> Result<(), usize> {
+    for (place, turn) in turns.iter().enumerate() {
+        if !turn.holds(near, far) {
+            return Err(place);
+        }
+    }
+    Ok(())
+}
+
 /// The length of the datagram that the link sends at this moment.
 pub fn sent_length<C: Carrier>(link: &mut C, now: u64) -> Option<usize>
     requires { now < 2 ^ 62 }
@@ -114,14 +160,21 @@ pub fn sends<C: Carrier>(link: &mut C, now: u64, datagram: &[u8]) -> bool
     }
 }
 
-/// Whether the link sends a datagram of 1,232 bytes that begins so and goes on with zeros.
+/// A datagram of 1,232 bytes that begins so and goes on with zeros.
+pub fn filled(front: &[u8]) -> [u8; 1232] {
+    let mut datagram = [0; 1232];
+    for (place, byte) in datagram.iter_mut().zip(front) {
+        *place = *byte;
+    }
+    datagram
+}
+
+/// Whether the link sends just a datagram of 1,232 bytes that begins so and goes on with zeros.
 fn sends_filled<C: Carrier>(link: &mut C, now: u64, front: &[u8]) -> bool
     requires { now < 2 ^ 62 }
 {
     let mut out = [0xaa; 1232];
-    link.poll(now, &mut out) == Some(1232)
-        && out.starts_with(front)
-        && out.iter().skip(front.len()).all(|byte| *byte == 0)
+    link.poll(now, &mut out) == Some(1232) && out == filled(front)
 }
 
 /// Whether the link sends so many datagrams at this moment, each of so many bytes.
@@ -210,7 +263,7 @@ fn gives<C: Carrier>(link: &mut C, times: usize, bytes: &[u8]) -> bool {
 
 /// Whether just these bytes can be pulled.
 fn pulls<C: Carrier>(link: &mut C, bytes: &[u8]) -> bool {
-    let mut out = [0; 64];
+    let mut out = [0; 4_096];
     let count = link.pull(&mut out);
     &out[..count] == bytes && link.pull(&mut out) == 0
 }
