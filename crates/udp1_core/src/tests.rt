@@ -1,47 +1,42 @@
 //! Stories of one end, and of two.
 
-ghost use Rattle.std.specs.Prelude.{◌<◌, ◌^◌};
+ghost use Rattle.std.specs.Prelude.{◌≡◌, ◌⊎◌};
 
 mod arrival;
-mod pair;
 mod refusals;
 mod tellings;
 mod timer;
 
 use super::*;
-use carrier::Carrier;
+use link_net::{Ending, Step, Story, play};
+use mt_base::NoMemory;
+use std::alloc::Global;
+use std::test::*;
 
-/// The length of the datagram that the link sends at this moment.
-fn sent_length(link: &mut Udp1Core, now: u64) -> Option<usize>
-    requires { now < 2 ^ 62 }
+/// The part 2 of two bytes.
+const PART_2: [u8; 18] = [
+    0, 0, 0, 1, 0, 0x40, 0, 8, 0, 0, 0, 2, 0, 0, 0, 2, 0x41, 0x42,
+];
+
+/// The part 2 was received.
+const TELLS_2: [u8; 12] = [0, 0, 0, 2, 0, 0x40, 0, 4, 0, 1, 1, 0];
+
+/// Goes through these steps at one end of a new link of this version, 0x0001 or 0x0002, between ends
+/// that both have the initial number 1; the inner `Err` has the place of the first that does not hold.
+fn goes(alloc: Global, version: u16, steps: &[Step]) -> Result<Result<(), usize>, NoMemory>
+    requires { (version ≡ 0x0001) ⊎ (version ≡ 0x0002) }
 {
-    let mut out = [0; 1232];
-    link.poll(now, &mut out)
+    let mut link = Udp1Core::new(alloc, 1, 1, version)?;
+    Ok(play(&mut link, steps))
 }
 
-/// Whether the link sends a datagram at this moment.
-fn is_sending(link: &mut Udp1Core, now: u64) -> bool
-    requires { now < 2 ^ 62 }
+/// How this story ends for two links of this version with these initial numbers.
+fn ends(alloc: Global, initial: (u32, u32), version: u16, story: &Story) -> Result<Ending, NoMemory>
+    requires { (version ≡ 0x0001) ⊎ (version ≡ 0x0002) }
 {
-    sent_length(link, now).is_some()
-}
-
-/// Whether the link sends nothing at this moment.
-fn is_silent(link: &mut Udp1Core, now: u64) -> bool
-    requires { now < 2 ^ 62 }
-{
-    sent_length(link, now).is_none()
-}
-
-/// Whether the link sends just these bytes at this moment.
-fn sends(link: &mut Udp1Core, now: u64, bytes: &[u8]) -> bool
-    requires { now < 2 ^ 62 }
-{
-    let mut out = [0; 1232];
-    match link.poll(now, &mut out) {
-        Some(length) => &out[..length] == bytes,
-        None => false,
-    }
+    let near = Udp1Core::new(alloc, initial.0, initial.1, version)?;
+    let far = Udp1Core::new(alloc, initial.1, initial.0, version)?;
+    story.run(alloc, near, far)
 }
 
 #[test]

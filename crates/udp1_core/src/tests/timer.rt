@@ -1,12 +1,9 @@
 //! When a part is sent again, and when the link closes.
 
-use super::{is_sending, is_silent, sends, sent_length};
-use crate::Udp1Core;
-use carrier::{Carrier, GiveRefusal, LinkState, Reason, Took};
+use super::{PART_2, TELLS_2, goes};
+use carrier::{GiveRefusal, LinkState, Reason};
+use link_net::Step;
 use std::test::*;
-
-/// The part 2 was received.
-const TELLS_2: [u8; 12] = [0, 0, 0, 2, 0, 0x40, 0, 4, 0, 1, 1, 0];
 
 /// Sixteen expiries of version 1: after 500, 1000, 2000, 4000 and then each time 8000 milliseconds.
 const EXPIRIES_1: [u32; 16] = [
@@ -20,170 +17,169 @@ const EXPIRIES_2: [u32; 16] = [
     52_500, 57_300, 62_100,
 ];
 
-/// Whether the link sends one datagram at this moment, and says so before.
-fn expires_at(link: &mut Udp1Core, moment: u32) -> bool {
-    let at = u64::from(moment);
-    link.next_due() == Some(at)
-        && is_silent(link, at.saturating_sub(1))
-        && link.next_due() == Some(at)
-        && is_sending(link, at)
-        && is_silent(link, at)
-}
+/// A part is sent again after half a second.
+const A_PART_IS_SENT_AGAIN_AFTER_HALF_A_SECOND: [Step<'static>; 6] = [
+    Step::Gives(1, &[0x41, 0x42]),
+    Step::Sends(0, &PART_2),
+    Step::Due(500),
+    Step::Queued(2),
+    Step::Silent(499),
+    Step::Sends(
+        500,
+        &[
+            0, 0, 0, 1, 0, 0x40, 1, 8, 0, 0, 0, 2, 0, 0, 0, 3, 0, 0, 0, 2, 0x41, 0x42,
+        ],
+    ),
+];
 
-/// Whether the link closes at this moment, and not before.
-fn closes_at(link: &mut Udp1Core, moment: u32) -> bool {
-    let at = u64::from(moment);
-    link.next_due() == Some(at)
-        && is_silent(link, at.saturating_sub(1))
-        && link.state() == LinkState::Open
-        && is_silent(link, at)
-        && link.state() == LinkState::Closed { expiries: 17 }
-}
+/// A silent peer closes the link.
+const A_SILENT_PEER_CLOSES_THE_LINK: [Step<'static>; 13] = [
+    Step::NotDue,
+    Step::Is(LinkState::Open),
+    Step::Gives(1, &[0x41, 0x42]),
+    Step::Due(0),
+    Step::SendsOne(0),
+    Step::Expires(&EXPIRIES_1),
+    Step::Closes(111_500, 17),
+    Step::NotDue,
+    Step::Refuses(&[3], GiveRefusal::Closed { expiries: 17 }),
+    Step::Ignores(111_501, &TELLS_2, Reason::LinkClosed),
+    Step::Ignores(111_501, &[0; 1233], Reason::LinkClosed),
+    Step::Silent(1_000_000),
+    Step::Queued(2),
+];
+
+/// A settled part ends the row of expiries.
+const A_SETTLED_PART_ENDS_THE_ROW_OF_EXPIRIES: [Step<'static>; 11] = [
+    Step::Gives(1, &[7; 1_003]),
+    Step::SendsMany(0, 1, 1_016),
+    Step::SendsMany(0, 1, 19),
+    Step::SendsMany(500, 1, 1_020),
+    Step::Due(1_500),
+    Step::Queued(1_003),
+    Step::Uses(600, &TELLS_2),
+    Step::Due(1_100),
+    Step::Queued(3),
+    Step::Silent(1_099),
+    Step::Sends(
+        1_100,
+        &[
+            0, 0, 0, 1, 0, 0x40, 1, 8, 0, 0, 0, 3, 0, 0, 0, 5, 0, 0, 0, 3, 7, 7, 7,
+        ],
+    ),
+];
+
+/// A part that was passed over is sent again at once.
+const A_PART_THAT_WAS_PASSED_OVER_IS_SENT_AGAIN_AT_ONCE: [Step<'static>; 17] = [
+    // the parts 2 to 5 of one byte each, the next number each
+    Step::Gives(1, &[2]),
+    Step::SendsOne(0),
+    Step::Gives(1, &[3]),
+    Step::SendsOne(0),
+    Step::Gives(1, &[4]),
+    Step::SendsOne(0),
+    Step::Gives(1, &[5]),
+    Step::SendsOne(0),
+    // the part 2 not, the parts 3 and 4
+    Step::Uses(20, &[0, 0, 0, 4, 0, 0x40, 0, 4, 0, 2, 0xc1, 2]),
+    Step::Due(520),
+    Step::Silent(20),
+    // and the part 5
+    Step::Uses(30, &[0, 0, 0, 5, 0, 0x40, 0, 4, 0, 2, 0xc1, 3]),
+    Step::Due(30),
+    Step::Queued(1),
+    Step::Sends(
+        30,
+        &[
+            0, 0, 0, 1, 0, 0x40, 1, 8, 0, 0, 0, 2, 0, 0, 0, 6, 0, 0, 0, 2, 2,
+        ],
+    ),
+    Step::Silent(30),
+    Step::Due(530),
+];
+
+/// One part goes where the peer says so.
+const ONE_PART_GOES_WHERE_THE_PEER_SAYS_SO: [Step<'static>; 15] = [
+    Step::Uses(0, &[0, 0, 0, 1, 0, 1, 0, 0]),
+    Step::Gives(1, &[9; 2_500]),
+    Step::SendsMany(0, 1, 1_016),
+    Step::Silent(0),
+    Step::Due(500),
+    // the part 2, and a window of one part again
+    Step::Uses(10, &[0, 0, 0, 2, 0, 1, 0, 4, 0, 1, 1, 0]),
+    Step::Due(10),
+    Step::SendsMany(10, 1, 1_016),
+    Step::Silent(10),
+    // the part 3, and a window of none
+    Step::Uses(20, &[0, 0, 0, 3, 0, 0, 0, 4, 0, 1, 1, 0]),
+    Step::Silent(5_000),
+    Step::NotDue,
+    Step::Queued(500),
+    Step::Uses(5_000, &[0, 0, 0, 1, 0, 64, 0, 0]),
+    Step::SendsMany(5_000, 1, 516),
+];
+
+/// The window has 64 parts and moves.
+const THE_WINDOW_HAS_64_PARTS_AND_MOVES: [Step<'static>; 12] = [
+    // a window of 200 parts counts as one of 64
+    Step::Uses(0, &[0, 0, 0, 1, 0, 200, 0, 0]),
+    Step::Gives(1, &[9; 4_096]),
+    Step::Gives(1, &[9; 65_536]),
+    Step::SendsMany(0, 64, 1_016),
+    Step::Silent(0),
+    // the part 3 alone does not move it
+    Step::Uses(10, &[0, 0, 0, 3, 0, 64, 0, 4, 0, 2, 0xc1, 1]),
+    Step::Silent(10),
+    // the part 2 moves it by both
+    Step::Uses(20, &TELLS_2),
+    Step::SendsMany(20, 2, 1_016),
+    Step::Silent(20),
+    Step::Due(520),
+    Step::Queued(67_632),
+];
 
 #[test]
-fn a_part_is_sent_again_after_half_a_second(rt: HostRuntime) -> Result<(), Fail> {
-    let mut link = Udp1Core::new(rt.alloc(), 1, 1, 0x0001)?;
-    assert_eq!(rt; link.give(&[0x41, 0x42]), Ok(()));
-    let first = [
-        0, 0, 0, 1, 0, 0x40, 0, 8, 0, 0, 0, 2, 0, 0, 0, 2, 0x41, 0x42,
+fn what_is_not_told_is_sent_again(rt: HostRuntime) -> Result<(), Fail> {
+    let stories: [(&str, &[Step]); 6] = [
+        (
+            "a part is sent again after half a second",
+            &A_PART_IS_SENT_AGAIN_AFTER_HALF_A_SECOND,
+        ),
+        (
+            "a silent peer closes the link",
+            &A_SILENT_PEER_CLOSES_THE_LINK,
+        ),
+        (
+            "a settled part ends the row of expiries",
+            &A_SETTLED_PART_ENDS_THE_ROW_OF_EXPIRIES,
+        ),
+        (
+            "a part that was passed over is sent again at once",
+            &A_PART_THAT_WAS_PASSED_OVER_IS_SENT_AGAIN_AT_ONCE,
+        ),
+        (
+            "one part goes where the peer says so",
+            &ONE_PART_GOES_WHERE_THE_PEER_SAYS_SO,
+        ),
+        (
+            "the window has 64 parts and moves",
+            &THE_WINDOW_HAS_64_PARTS_AND_MOVES,
+        ),
     ];
-    assert!(rt; sends(&mut link, 0, &first));
-    assert_eq!(rt; (link.next_due(), link.queued()), (Some(500), 2));
-    assert!(rt; is_silent(&mut link, 499));
-    let again = [
-        0, 0, 0, 1, 0, 0x40, 1, 8, 0, 0, 0, 2, 0, 0, 0, 3, 0, 0, 0, 2, 0x41, 0x42,
-    ];
-    assert!(rt; sends(&mut link, 500, &again));
-    Ok(())
-}
-
-#[test]
-fn a_silent_peer_closes_the_link(rt: HostRuntime) -> Result<(), Fail> {
-    let mut link = Udp1Core::new(rt.alloc(), 1, 1, 0x0001)?;
-    assert_eq!(rt; (link.next_due(), link.state()), (None, LinkState::Open));
-    assert_eq!(rt; link.give(&[0x41, 0x42]), Ok(()));
-    assert_eq!(rt; link.next_due(), Some(0));
-    assert!(rt; is_sending(&mut link, 0));
-    for moment in EXPIRIES_1 {
-        assert!(rt; expires_at(&mut link, moment), "at {moment}");
+    for (name, steps) in stories {
+        assert_eq!(rt; goes(rt.alloc(), 1, steps)?, Ok(()), "{name}");
     }
-    assert!(rt; closes_at(&mut link, 111_500));
-    assert_eq!(rt; link.next_due(), None);
-    assert_eq!(rt; link.give(&[3]), Err(GiveRefusal::Closed { expiries: 17 }));
-    let closed = Took::Ignored(Reason::LinkClosed);
-    assert_eq!(rt; link.input(111_501, &TELLS_2), closed);
-    assert_eq!(rt; link.input(111_501, &[0; 1233]), closed);
-    assert!(rt; is_silent(&mut link, 1_000_000));
-    assert_eq!(rt; link.queued(), 2);
     Ok(())
 }
 
 #[test]
 fn a_silent_peer_closes_the_link_of_version_2(rt: HostRuntime) -> Result<(), Fail> {
-    let mut link = Udp1Core::new(rt.alloc(), 1, 1, 0x0002)?;
-    assert_eq!(rt; link.give(&[0x41, 0x42]), Ok(()));
-    assert!(rt; is_sending(&mut link, 0));
-    for moment in EXPIRIES_2 {
-        assert!(rt; expires_at(&mut link, moment), "at {moment}");
-    }
-    assert!(rt; closes_at(&mut link, 66_900));
-    Ok(())
-}
-
-#[test]
-fn a_settled_part_ends_the_row_of_expiries(rt: HostRuntime) -> Result<(), Fail> {
-    let mut link = Udp1Core::new(rt.alloc(), 1, 1, 0x0001)?;
-    assert_eq!(rt; link.give(&[7; 1_003]), Ok(()));
-    assert_eq!(rt; sent_length(&mut link, 0), Some(1_016));
-    assert_eq!(rt; sent_length(&mut link, 0), Some(19));
-    assert_eq!(rt; sent_length(&mut link, 500), Some(1_020));
-    assert_eq!(rt; (link.next_due(), link.queued()), (Some(1_500), 1_003));
-    assert_eq!(rt; link.input(600, &TELLS_2), Took::Used);
-    assert_eq!(rt; (link.next_due(), link.queued()), (Some(1_100), 3));
-    assert!(rt; is_silent(&mut link, 1_099));
-    let again = [
-        0, 0, 0, 1, 0, 0x40, 1, 8, 0, 0, 0, 3, 0, 0, 0, 5, 0, 0, 0, 3, 7, 7, 7,
+    let steps = [
+        Step::Gives(1, &[0x41, 0x42]),
+        Step::SendsOne(0),
+        Step::Expires(&EXPIRIES_2),
+        Step::Closes(66_900, 17),
     ];
-    assert!(rt; sends(&mut link, 1_100, &again));
-    Ok(())
-}
-
-/// Sends the parts 2 to 5 of one byte each, the next number each.
-fn sends_four_parts(link: &mut Udp1Core) -> bool {
-    for byte in 2..6 {
-        if link.give(&[byte]).is_err() || !is_sending(link, 0) {
-            return false;
-        }
-    }
-    true
-}
-
-#[test]
-fn a_part_that_was_passed_over_is_sent_again_at_once(rt: HostRuntime) -> Result<(), Fail> {
-    let mut link = Udp1Core::new(rt.alloc(), 1, 1, 0x0001)?;
-    assert!(rt; sends_four_parts(&mut link));
-    // the part 2 not, the parts 3 and 4
-    let two_above = [0, 0, 0, 4, 0, 0x40, 0, 4, 0, 2, 0xc1, 2];
-    assert_eq!(rt; link.input(20, &two_above), Took::Used);
-    assert_eq!(rt; link.next_due(), Some(520));
-    assert!(rt; is_silent(&mut link, 20));
-    // and the part 5
-    let three_above = [0, 0, 0, 5, 0, 0x40, 0, 4, 0, 2, 0xc1, 3];
-    assert_eq!(rt; link.input(30, &three_above), Took::Used);
-    assert_eq!(rt; (link.next_due(), link.queued()), (Some(30), 1));
-    let again = [
-        0, 0, 0, 1, 0, 0x40, 1, 8, 0, 0, 0, 2, 0, 0, 0, 6, 0, 0, 0, 2, 2,
-    ];
-    assert!(rt; sends(&mut link, 30, &again));
-    assert!(rt; is_silent(&mut link, 30));
-    assert_eq!(rt; link.next_due(), Some(530));
-    Ok(())
-}
-
-#[test]
-fn one_part_goes_where_the_peer_says_so(rt: HostRuntime) -> Result<(), Fail> {
-    let mut link = Udp1Core::new(rt.alloc(), 1, 1, 0x0001)?;
-    assert_eq!(rt; link.input(0, &[0, 0, 0, 1, 0, 1, 0, 0]), Took::Used);
-    assert_eq!(rt; link.give(&[9; 2_500]), Ok(()));
-    assert_eq!(rt; sent_length(&mut link, 0), Some(1_016));
-    assert!(rt; is_silent(&mut link, 0));
-    assert_eq!(rt; link.next_due(), Some(500));
-    // the part 2, and a window of one part again
-    let told = [0, 0, 0, 2, 0, 1, 0, 4, 0, 1, 1, 0];
-    assert_eq!(rt; link.input(10, &told), Took::Used);
-    assert_eq!(rt; link.next_due(), Some(10));
-    assert_eq!(rt; sent_length(&mut link, 10), Some(1_016));
-    assert!(rt; is_silent(&mut link, 10));
-    // the part 3, and a window of none
-    let told = [0, 0, 0, 3, 0, 0, 0, 4, 0, 1, 1, 0];
-    assert_eq!(rt; link.input(20, &told), Took::Used);
-    assert!(rt; is_silent(&mut link, 5_000));
-    assert_eq!(rt; (link.next_due(), link.queued()), (None, 500));
-    assert_eq!(rt; link.input(5_000, &[0, 0, 0, 1, 0, 64, 0, 0]), Took::Used);
-    assert_eq!(rt; sent_length(&mut link, 5_000), Some(516));
-    Ok(())
-}
-
-#[test]
-fn the_window_has_64_parts_and_moves(rt: HostRuntime) -> Result<(), Fail> {
-    let mut link = Udp1Core::new(rt.alloc(), 1, 1, 0x0001)?;
-    // a window of 200 parts counts as one of 64
-    assert_eq!(rt; link.input(0, &[0, 0, 0, 1, 0, 200, 0, 0]), Took::Used);
-    assert_eq!(rt; link.give(&[9; 4_096]), Ok(()));
-    assert_eq!(rt; link.give(&[9; 65_536]), Ok(()));
-    for part in 2..66 {
-        assert_eq!(rt; sent_length(&mut link, 0), Some(1_016), "part {part}");
-    }
-    assert!(rt; is_silent(&mut link, 0));
-    // the part 3 alone does not move it
-    let told = [0, 0, 0, 3, 0, 64, 0, 4, 0, 2, 0xc1, 1];
-    assert_eq!(rt; link.input(10, &told), Took::Used);
-    assert!(rt; is_silent(&mut link, 10));
-    // the part 2 moves it by both
-    assert_eq!(rt; link.input(20, &TELLS_2), Took::Used);
-    assert_eq!(rt; sent_length(&mut link, 20), Some(1_016));
-    assert_eq!(rt; sent_length(&mut link, 20), Some(1_016));
-    assert!(rt; is_silent(&mut link, 20));
-    assert_eq!(rt; (link.next_due(), link.queued()), (Some(520), 67_632));
+    assert_eq!(rt; goes(rt.alloc(), 2, &steps)?, Ok(()));
     Ok(())
 }
