@@ -1,47 +1,34 @@
 //! Stories of one end, and of two.
 
-ghost use Rattle.std.specs.Prelude.{◌<◌, ◌^◌};
-
 mod arrival;
-mod pair;
 mod refusals;
 mod tellings;
 mod timer;
 
 use super::*;
-use carrier::Carrier;
+use link_net::{Ending, Step, Story, play};
+use mt_base::NoMemory;
+use std::alloc::Global;
+use std::test::*;
 
-/// The length of the datagram that the link sends at this moment.
-fn sent_length(link: &mut Udp2Core, now: u64) -> Option<usize>
-    requires { now < 2 ^ 62 }
-{
-    let mut out = [0; 1232];
-    link.poll(now, &mut out)
+/// The part 1 of two bytes, as the transmission 1.
+const PART_1: [u8; 9] = [0x41, 0x04, 0x60, 1, 0, 1, 0, 0xe0, 0x42];
+
+/// The transmission 1 was received.
+const TELLS_1: [u8; 10] = [0, 0x01, 0x60, 1, 0, 0, 0, 0xe0, 0, 0];
+
+/// Goes through these steps at one end of a new link; the inner `Err` has the place of the first that
+/// does not hold.
+fn goes(alloc: Global, steps: &[Step]) -> Result<Result<(), usize>, NoMemory> {
+    let mut link = Udp2Core::new(alloc)?;
+    Ok(play(&mut link, steps))
 }
 
-/// Whether the link sends a datagram at this moment.
-fn is_sending(link: &mut Udp2Core, now: u64) -> bool
-    requires { now < 2 ^ 62 }
-{
-    sent_length(link, now).is_some()
-}
-
-/// Whether the link sends nothing at this moment.
-fn is_silent(link: &mut Udp2Core, now: u64) -> bool
-    requires { now < 2 ^ 62 }
-{
-    sent_length(link, now).is_none()
-}
-
-/// Whether the link sends just these bytes at this moment.
-fn sends(link: &mut Udp2Core, now: u64, bytes: &[u8]) -> bool
-    requires { now < 2 ^ 62 }
-{
-    let mut out = [0; 1232];
-    match link.poll(now, &mut out) {
-        Some(length) => &out[..length] == bytes,
-        None => false,
-    }
+/// How this story ends for two links.
+fn ends(alloc: Global, story: &Story) -> Result<Ending, NoMemory> {
+    let near = Udp2Core::new(alloc)?;
+    let far = Udp2Core::new(alloc)?;
+    story.run(alloc, near, far)
 }
 
 #[test]

@@ -1,15 +1,9 @@
 //! When a part is sent again, and when the link closes.
 
-use super::{is_sending, is_silent, sends, sent_length};
-use crate::Udp2Core;
-use carrier::{Carrier, GiveRefusal, LinkState, Reason, Took};
+use super::{PART_1, TELLS_1, goes};
+use carrier::{GiveRefusal, LinkState, Reason};
+use link_net::Step;
 use std::test::*;
-
-/// The part 1 of two bytes, as the transmission 1.
-const PART_1: [u8; 9] = [0x41, 0x04, 0x60, 1, 0, 1, 0, 0xe0, 0x42];
-
-/// The transmission 1 was received.
-const TELLS_1: [u8; 10] = [0, 0x01, 0x60, 1, 0, 0, 0, 0xe0, 0, 0];
 
 /// Sixteen expiries: after 300, 600, 1200, 2400 and then each time 4800 milliseconds.
 const EXPIRIES: [u32; 16] = [
@@ -17,176 +11,181 @@ const EXPIRIES: [u32; 16] = [
     52_500, 57_300, 62_100,
 ];
 
-/// Whether the link sends one datagram at this moment, and says so before.
-fn expires_at(link: &mut Udp2Core, moment: u32) -> bool {
-    let at = u64::from(moment);
-    link.next_due() == Some(at)
-        && is_silent(link, at.saturating_sub(1))
-        && link.next_due() == Some(at)
-        && is_sending(link, at)
-        && is_silent(link, at)
-}
-
-/// Whether the link closes at this moment, and not before.
-fn closes_at(link: &mut Udp2Core, moment: u32) -> bool {
-    let at = u64::from(moment);
-    link.next_due() == Some(at)
-        && is_silent(link, at.saturating_sub(1))
-        && link.state() == LinkState::Open
-        && is_silent(link, at)
-        && link.state() == LinkState::Closed { expiries: 17 }
-}
-
-#[test]
-fn a_part_is_sent_again_after_300_milliseconds(rt: HostRuntime) -> Result<(), Fail> {
-    let mut link = Udp2Core::new(rt.alloc())?;
-    assert_eq!(rt; link.give(&[0x41, 0x42]), Ok(()));
-    assert!(rt; sends(&mut link, 0, &PART_1));
-    assert_eq!(rt; (link.next_due(), link.queued()), (Some(300), 2));
-    assert!(rt; is_silent(&mut link, 299));
+/// A part is sent again after 300 milliseconds.
+const A_PART_IS_SENT_AGAIN_AFTER_300_MILLISECONDS: [Step<'static>; 6] = [
+    Step::Gives(1, &[0x41, 0x42]),
+    Step::Sends(0, &PART_1),
+    Step::Due(300),
+    Step::Queued(2),
+    Step::Silent(299),
     // the transmission 2 of the part 1, above the floor 1
-    let again = [1, 0x14, 0x60, 1, 0, 2, 0, 0xe0, 0, 0x41, 0x42];
-    assert!(rt; sends(&mut link, 300, &again));
-    Ok(())
-}
+    Step::Sends(300, &[1, 0x14, 0x60, 1, 0, 2, 0, 0xe0, 0, 0x41, 0x42]),
+];
 
-#[test]
-fn a_silent_peer_closes_the_link(rt: HostRuntime) -> Result<(), Fail> {
-    let mut link = Udp2Core::new(rt.alloc())?;
-    assert_eq!(rt; (link.next_due(), link.state()), (None, LinkState::Open));
-    assert_eq!(rt; link.give(&[0x41, 0x42]), Ok(()));
-    assert_eq!(rt; link.next_due(), Some(0));
-    assert!(rt; is_sending(&mut link, 0));
-    for moment in EXPIRIES {
-        assert!(rt; expires_at(&mut link, moment), "at {moment}");
-    }
-    assert!(rt; closes_at(&mut link, 66_900));
-    assert_eq!(rt; link.next_due(), None);
-    assert_eq!(rt; link.give(&[3]), Err(GiveRefusal::Closed { expiries: 17 }));
-    let closed = Took::Ignored(Reason::LinkClosed);
-    assert_eq!(rt; link.input(66_901, &TELLS_1), closed);
-    assert_eq!(rt; link.input(66_901, &[0; 1233]), closed);
-    assert!(rt; is_silent(&mut link, 1_000_000));
-    assert_eq!(rt; link.queued(), 2);
-    Ok(())
-}
+/// A silent peer closes the link.
+const A_SILENT_PEER_CLOSES_THE_LINK: [Step<'static>; 13] = [
+    Step::NotDue,
+    Step::Is(LinkState::Open),
+    Step::Gives(1, &[0x41, 0x42]),
+    Step::Due(0),
+    Step::SendsOne(0),
+    Step::Expires(&EXPIRIES),
+    Step::Closes(66_900, 17),
+    Step::NotDue,
+    Step::Refuses(&[3], GiveRefusal::Closed { expiries: 17 }),
+    Step::Ignores(66_901, &TELLS_1, Reason::LinkClosed),
+    Step::Ignores(66_901, &[0; 1233], Reason::LinkClosed),
+    Step::Silent(1_000_000),
+    Step::Queued(2),
+];
 
-#[test]
-fn a_settled_part_ends_the_row_of_expiries(rt: HostRuntime) -> Result<(), Fail> {
-    let mut link = Udp2Core::new(rt.alloc())?;
-    assert_eq!(rt; link.give(&[7; 1_003]), Ok(()));
-    assert_eq!(rt; sent_length(&mut link, 0), Some(1_007));
-    assert_eq!(rt; sent_length(&mut link, 0), Some(10));
-    assert_eq!(rt; sent_length(&mut link, 300), Some(1_009));
-    assert_eq!(rt; (link.next_due(), link.queued()), (Some(900), 1_003));
+/// A settled part ends the row of expiries.
+const A_SETTLED_PART_ENDS_THE_ROW_OF_EXPIRIES: [Step<'static>; 11] = [
+    Step::Gives(1, &[7; 1_003]),
+    Step::SendsMany(0, 1, 1_007),
+    Step::SendsMany(0, 1, 10),
+    Step::SendsMany(300, 1, 1_009),
+    Step::Due(900),
+    Step::Queued(1_003),
     // the part 1 is settled by its first transmission
-    assert_eq!(rt; link.input(400, &TELLS_1), Took::Used);
-    assert_eq!(rt; (link.next_due(), link.queued()), (Some(700), 3));
-    assert!(rt; is_silent(&mut link, 699));
+    Step::Uses(400, &TELLS_1),
+    Step::Due(700),
+    Step::Queued(3),
+    Step::Silent(699),
     // the transmission 4 of the part 2, above the floor 2
-    let again = [2, 0x14, 0x60, 2, 0, 4, 0, 0xe0, 0, 7, 7, 7];
-    assert!(rt; sends(&mut link, 700, &again));
-    Ok(())
-}
+    Step::Sends(700, &[2, 0x14, 0x60, 2, 0, 4, 0, 0xe0, 0, 7, 7, 7]),
+];
 
-/// Sends the parts 1 to 4 of one byte each, the next number each.
-fn sends_four_parts(link: &mut Udp2Core) -> bool {
-    for byte in 1..5 {
-        if link.give(&[byte]).is_err() || !is_sending(link, 0) {
-            return false;
-        }
-    }
-    true
-}
-
-#[test]
-fn a_part_that_was_passed_over_is_sent_again_at_once(rt: HostRuntime) -> Result<(), Fail> {
-    let mut link = Udp2Core::new(rt.alloc())?;
-    assert!(rt; sends_four_parts(&mut link));
-    // the transmissions 2 and 3, by a vector
-    let two_above = [0, 0x08, 0x60, 2, 0, 1, 0xc2, 0xc0];
-    assert_eq!(rt; link.input(20, &two_above), Took::Used);
-    assert_eq!(rt; link.next_due(), Some(320));
-    assert!(rt; is_silent(&mut link, 20));
-    // and the transmission 4
-    let three_above = [0, 0x08, 0x60, 2, 0, 1, 0xc3, 0xc0];
-    assert_eq!(rt; link.input(30, &three_above), Took::Used);
-    assert_eq!(rt; (link.next_due(), link.queued()), (Some(30), 1));
-    let again = [1, 0x14, 0x60, 1, 0, 5, 0, 0xe0, 0, 1];
-    assert!(rt; sends(&mut link, 30, &again));
-    assert!(rt; is_silent(&mut link, 30));
-    assert_eq!(rt; link.next_due(), Some(330));
-    Ok(())
-}
-
-#[test]
-fn one_part_goes_where_the_peer_says_so(rt: HostRuntime) -> Result<(), Fail> {
-    let mut link = Udp2Core::new(rt.alloc())?;
+/// One part goes where the peer says so.
+const ONE_PART_GOES_WHERE_THE_PEER_SAYS_SO: [Step<'static>; 11] = [
     // nothing but a window of one part
-    assert_eq!(rt; link.input(0, &[0, 0, 0, 0, 0, 0, 0, 0x40]), Took::Used);
-    assert_eq!(rt; link.give(&[9; 2_500]), Ok(()));
-    assert_eq!(rt; sent_length(&mut link, 0), Some(1_007));
-    assert!(rt; is_silent(&mut link, 0));
-    assert_eq!(rt; link.next_due(), Some(300));
+    Step::Uses(0, &[0, 0, 0, 0, 0, 0, 0, 0x40]),
+    Step::Gives(1, &[9; 2_500]),
+    Step::SendsMany(0, 1, 1_007),
+    Step::Silent(0),
+    Step::Due(300),
     // the transmission 1, and a window of one part again
-    let told = [0, 0x01, 0, 1, 0, 0, 0, 0xe0, 0, 0];
-    assert_eq!(rt; link.input(10, &told), Took::Used);
-    assert_eq!(rt; link.next_due(), Some(10));
-    assert_eq!(rt; sent_length(&mut link, 10), Some(1_007));
-    assert!(rt; is_silent(&mut link, 10));
+    Step::Uses(10, &[0, 0x01, 0, 1, 0, 0, 0, 0xe0, 0, 0]),
+    Step::Due(10),
+    Step::SendsMany(10, 1, 1_007),
+    Step::Silent(10),
     // a window of 64 parts
-    assert_eq!(rt; link.input(20, &[0, 0, 0x60, 0, 0, 0, 0, 0x40]), Took::Used);
-    assert_eq!(rt; sent_length(&mut link, 20), Some(507));
-    Ok(())
-}
+    Step::Uses(20, &[0, 0, 0x60, 0, 0, 0, 0, 0x40]),
+    Step::SendsMany(20, 1, 507),
+];
 
-#[test]
-fn the_window_has_64_parts_and_moves(rt: HostRuntime) -> Result<(), Fail> {
-    let mut link = Udp2Core::new(rt.alloc())?;
+/// The window has 64 parts and moves.
+const THE_WINDOW_HAS_64_PARTS_AND_MOVES: [Step<'static>; 12] = [
     // a window of 32,768 parts counts as one of 64
-    assert_eq!(rt; link.input(0, &[0, 0, 0xf0, 0, 0, 0, 0, 0x40]), Took::Used);
-    assert_eq!(rt; link.give(&[9; 4_096]), Ok(()));
-    assert_eq!(rt; link.give(&[9; 65_536]), Ok(()));
-    for part in 1..65 {
-        assert_eq!(rt; sent_length(&mut link, 0), Some(1_007), "part {part}");
-    }
-    assert!(rt; is_silent(&mut link, 0));
+    Step::Uses(0, &[0, 0, 0xf0, 0, 0, 0, 0, 0x40]),
+    Step::Gives(1, &[9; 4_096]),
+    Step::Gives(1, &[9; 65_536]),
+    Step::SendsMany(0, 64, 1_007),
+    Step::Silent(0),
     // the transmission 2 alone does not move it
-    let told = [0, 0x01, 0xf0, 2, 0, 0, 0, 0xe0, 0, 0];
-    assert_eq!(rt; link.input(10, &told), Took::Used);
-    assert!(rt; is_silent(&mut link, 10));
+    Step::Uses(10, &[0, 0x01, 0xf0, 2, 0, 0, 0, 0xe0, 0, 0]),
+    Step::Silent(10),
     // the transmission 1 moves it by both
-    assert_eq!(rt; link.input(20, &TELLS_1), Took::Used);
-    assert_eq!(rt; sent_length(&mut link, 20), Some(1_007));
-    assert_eq!(rt; sent_length(&mut link, 20), Some(1_007));
-    assert!(rt; is_silent(&mut link, 20));
-    assert_eq!(rt; (link.next_due(), link.queued()), (Some(320), 67_632));
-    Ok(())
-}
+    Step::Uses(20, &TELLS_1),
+    Step::SendsMany(20, 2, 1_007),
+    Step::Silent(20),
+    Step::Due(320),
+    Step::Queued(67_632),
+];
 
-#[test]
-fn a_part_is_settled_by_any_of_its_transmissions(rt: HostRuntime) -> Result<(), Fail> {
-    let mut link = Udp2Core::new(rt.alloc())?;
-    assert_eq!(rt; link.give(&[0x41, 0x42]), Ok(()));
-    assert!(rt; is_sending(&mut link, 0) && is_sending(&mut link, 300));
+/// A part is settled by any of its transmissions.
+const A_PART_IS_SETTLED_BY_ANY_OF_ITS_TRANSMISSIONS: [Step<'static>; 6] = [
+    Step::Gives(1, &[0x41, 0x42]),
+    Step::SendsOne(0),
+    Step::SendsOne(300),
     // the transmission 2 alone
-    let told = [0, 0x01, 0x60, 2, 0, 0, 0, 0xe0, 0, 0];
-    assert_eq!(rt; link.input(310, &told), Took::Used);
-    assert_eq!(rt; (link.queued(), link.next_due()), (0, None));
-    Ok(())
-}
+    Step::Uses(310, &[0, 0x01, 0x60, 2, 0, 0, 0, 0xe0, 0, 0]),
+    Step::Queued(0),
+    Step::NotDue,
+];
+
+/// A part that was passed over is sent again at once.
+const A_PART_THAT_WAS_PASSED_OVER_IS_SENT_AGAIN_AT_ONCE: [Step<'static>; 17] = [
+    // the parts 1 to 4 of one byte each, the next number each
+    Step::Gives(1, &[1]),
+    Step::SendsOne(0),
+    Step::Gives(1, &[2]),
+    Step::SendsOne(0),
+    Step::Gives(1, &[3]),
+    Step::SendsOne(0),
+    Step::Gives(1, &[4]),
+    Step::SendsOne(0),
+    // the transmissions 2 and 3, by a vector
+    Step::Uses(20, &[0, 0x08, 0x60, 2, 0, 1, 0xc2, 0xc0]),
+    Step::Due(320),
+    Step::Silent(20),
+    // and the transmission 4
+    Step::Uses(30, &[0, 0x08, 0x60, 2, 0, 1, 0xc3, 0xc0]),
+    Step::Due(30),
+    Step::Queued(1),
+    Step::Sends(30, &[1, 0x14, 0x60, 1, 0, 5, 0, 0xe0, 0, 1]),
+    Step::Silent(30),
+    Step::Due(330),
+];
+
+/// An acknowledgement tells as many as it has delays.
+const AN_ACKNOWLEDGEMENT_TELLS_AS_MANY_AS_IT_HAS_DELAYS: [Step<'static>; 13] = [
+    // the parts 1 to 4 of one byte each, the next number each
+    Step::Gives(1, &[1]),
+    Step::SendsOne(0),
+    Step::Gives(1, &[2]),
+    Step::SendsOne(0),
+    Step::Gives(1, &[3]),
+    Step::SendsOne(0),
+    Step::Gives(1, &[4]),
+    Step::SendsOne(0),
+    // the transmission 4 and the two below it
+    Step::Uses(10, &[0, 0x01, 0x60, 4, 0, 0, 0, 0xe0, 0, 2, 0, 0]),
+    Step::Queued(1),
+    // the transmission 3 and the two below it
+    Step::Uses(20, &[0, 0x01, 0x60, 3, 0, 0, 0, 0xe0, 0, 2, 0, 0]),
+    Step::Queued(0),
+    Step::NotDue,
+];
 
 #[test]
-fn an_acknowledgement_tells_as_many_as_it_has_delays(rt: HostRuntime) -> Result<(), Fail> {
-    let mut link = Udp2Core::new(rt.alloc())?;
-    assert!(rt; sends_four_parts(&mut link));
-    // the transmission 4 and the two below it
-    let told = [0, 0x01, 0x60, 4, 0, 0, 0, 0xe0, 0, 2, 0, 0];
-    assert_eq!(rt; link.input(10, &told), Took::Used);
-    assert_eq!(rt; link.queued(), 1);
-    // the transmission 3 and the two below it
-    let told = [0, 0x01, 0x60, 3, 0, 0, 0, 0xe0, 0, 2, 0, 0];
-    assert_eq!(rt; link.input(20, &told), Took::Used);
-    assert_eq!(rt; (link.queued(), link.next_due()), (0, None));
+fn what_is_not_told_is_sent_again(rt: HostRuntime) -> Result<(), Fail> {
+    let stories: [(&str, &[Step]); 8] = [
+        (
+            "a part is sent again after 300 milliseconds",
+            &A_PART_IS_SENT_AGAIN_AFTER_300_MILLISECONDS,
+        ),
+        (
+            "a silent peer closes the link",
+            &A_SILENT_PEER_CLOSES_THE_LINK,
+        ),
+        (
+            "a settled part ends the row of expiries",
+            &A_SETTLED_PART_ENDS_THE_ROW_OF_EXPIRIES,
+        ),
+        (
+            "one part goes where the peer says so",
+            &ONE_PART_GOES_WHERE_THE_PEER_SAYS_SO,
+        ),
+        (
+            "the window has 64 parts and moves",
+            &THE_WINDOW_HAS_64_PARTS_AND_MOVES,
+        ),
+        (
+            "a part is settled by any of its transmissions",
+            &A_PART_IS_SETTLED_BY_ANY_OF_ITS_TRANSMISSIONS,
+        ),
+        (
+            "a part that was passed over is sent again at once",
+            &A_PART_THAT_WAS_PASSED_OVER_IS_SENT_AGAIN_AT_ONCE,
+        ),
+        (
+            "an acknowledgement tells as many as it has delays",
+            &AN_ACKNOWLEDGEMENT_TELLS_AS_MANY_AS_IT_HAS_DELAYS,
+        ),
+    ];
+    for (name, steps) in stories {
+        assert_eq!(rt; goes(rt.alloc(), steps)?, Ok(()), "{name}");
+    }
     Ok(())
 }
