@@ -7,9 +7,10 @@
 //! times. Both print `BYTES bytes arrived` where the bytes that came are those that were sent, in
 //! order.
 //!
-//! Below it stand `carrier` with what a link is, `udp1_core` with the link, and `mt_outside` with the
-//! device that it prints on. The contract of [`cross`](crossing::cross) is proved for every kind of
-//! link: where it is `Ok`, the near end was given just these bytes and the far end pulled just them.
+//! Below it stand `carrier` with what a link is, `link_net` with the earlier of two moments,
+//! `udp1_core` with the link, and `mt_outside` with the device that it prints on. The contract of
+//! [`cross`](crossing::cross) is proved for every kind of link: where it is `Ok`, the near end was
+//! given just these bytes and the far end pulled just them.
 #![tactic(auto)]
 
 ghost use Rattle.std.specs.Prelude.{◌≡◌, length, IfOk};

@@ -4,6 +4,7 @@ ghost use Rattle.std.specs.Prelude.{◌≡◌, ◌<◌, ◌^◌, []};
 ghost use Rattle.link_bench.specs.Passing.{Passes};
 
 use carrier::Carrier;
+use link_net::earlier;
 
 /// No moment of the clock is this one, or a later one.
 const END: u64 = 4_611_686_018_427_387_904;
@@ -65,14 +66,5 @@ impl Network {
             }
             _ => false,
         }
-    }
-}
-
-/// The earlier of two moments, where there is one.
-fn earlier(one: Option<u64>, other: Option<u64>) -> Option<u64> {
-    match (one, other) {
-        (Some(one), Some(other)) => Some(one.min(other)),
-        (one, None) => one,
-        (None, other) => other,
     }
 }
