@@ -8,3 +8,4 @@ pub mod Polls
 pub mod Written
 pub mod Inputs
 pub mod Dues
+pub mod OfTrace

@@ -12,6 +12,7 @@
 mod choice;
 mod config;
 mod contents;
+mod laws;
 mod load;
 mod machine;
 mod numbers;
@@ -23,6 +24,7 @@ mod wire;
 pub use choice::Choice;
 pub use config::{ReceiverConfig, SenderConfig};
 pub use contents::Contents;
+pub use laws::a_machine_is_its_trace;
 pub use load::Load;
 pub use machine::Machine;
 pub use numbers::Numbers;

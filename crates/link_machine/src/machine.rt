@@ -4,11 +4,11 @@ ghost use Rattle.std.specs.Prelude.{◌≡◌, ◌+◌, ◌-◌, ◌<◌, ◌≤
 ghost use Rattle.mt_base.specs.Trace.{Trace, Start, ◌▷◌};
 ghost use Rattle.mt_windows.specs.ArrivedView.{left_of};
 ghost use Rattle.mt_windows.specs.Sending.Act.{Cut, Resent};
-ghost use Rattle.mt_windows.specs.Sending.{Act, cuts, next_piece, piece};
+ghost use Rattle.mt_windows.specs.Sending.{Act, queued, cuts, next_piece, piece};
 ghost use Rattle.mt_windows.specs.SendingView.{limits, queued_of, is_unsettled, reach_of, next_transmission, may_cut_of};
 ghost use Rattle.carrier.specs.Entries.{Entry, Gave, In, Polled, Pulled, Owed};
 ghost use Rattle.carrier.specs.Layout.{Received};
-ghost use Rattle.carrier.specs.Sending.{Timer, hears, timer_told};
+ghost use Rattle.carrier.specs.Sending.{Timer, acts, hears, timer_told};
 ghost use Rattle.carrier.specs.Due.{is_pressing, own_floor, IsNextDue};
 ghost use Rattle.carrier.specs.LayoutLaw.{IsCarried};
 ghost use Rattle.carrier.specs.Receiving.{receives, owes, floor_shown};
@@ -422,7 +422,9 @@ impl<L: WireLayout> Carrier for Machine<L> {
     }
 
     fn queued(&self) -> usize
-        ensures { result ≡ queued_of self.now.sender.outbox }
+        ensures value { result ≡ queued_of self.now.sender.outbox }
+        ensures history { (t : Trace Entry) → Stands L.wire self.now t →
+            result ≡ queued limits (acts (layout_at L.wire self.now) t) }
     {
         self.sender.queued()
     }

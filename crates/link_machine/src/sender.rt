@@ -3,7 +3,7 @@
 ghost use Rattle.std.specs.Prelude.{◌≡◌, ◌+◌, ◌-◌, ◌<◌, ◌≤◌, ◌^◌, ◌&&◌, ◌||◌, ℕ, Option, Some, None, true, All, length, take, drop, min, nat_le, is_some, if◌then◌else◌, IfOk, IfSome, OnOk, OnErr, Ok, Err, nat_lt, option_copied};
 ghost use Rattle.mt_base.specs.Trace.{Trace, Start, ◌▷◌};
 ghost use Rattle.mt_windows.specs.Sending.Act.{Gave, Cut, Resent};
-ghost use Rattle.mt_windows.specs.Sending.{Act, cuts, transmissions, next_piece, piece, lowest, lowest_or_next, settles_part, tells_part};
+ghost use Rattle.mt_windows.specs.Sending.{Act, queued, cuts, transmissions, next_piece, piece, lowest, lowest_or_next, settles_part, tells_part};
 ghost use Rattle.mt_windows.specs.SendingView.{Sends, limits, queued_of, reach_of, next_transmission, is_unsettled, may_cut_of};
 ghost use Rattle.carrier.specs.Layout.{Telling, Upto, tells, read_near};
 ghost use Rattle.carrier.specs.Sending.{Timer, hears_telling, expiry, is_over, is_waiting, expires, settles, tell_all, told_reference, timer_told};
@@ -89,7 +89,9 @@ impl<L: WireLayout> Sender<L> {
 
     /// How many bytes were given and are not in a settled part.
     pub fn queued(&self) -> usize
-        ensures { result ≡ queued_of self.now.outbox }
+        ensures value { result ≡ queued_of self.now.outbox }
+        ensures history { (acts : Trace Act) (told : ℕ) (timer : Timer) →
+            Speaks self.now acts told timer → result ≡ queued limits acts }
     {
         self.window.queued()
     }

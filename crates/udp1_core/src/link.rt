@@ -3,10 +3,12 @@
 ghost use Rattle.std.specs.Prelude.{◌≡◌, ◌⊎◌, ◌+◌, ◌<◌, ◌≤◌, ◌^◌, ◌++◌, [], ◌==◌, ℕ, List, None, if◌then◌else◌, length, take, drop, IfOk, IfSome, option_map, ◌↔◌, min, OnOk, OnErr};
 ghost use Rattle.mt_base.specs.Trace.{Trace, Start, ◌▷◌};
 ghost use Rattle.mt_windows.specs.ArrivedView.{left_of};
-ghost use Rattle.mt_windows.specs.SendingView.{queued_of};
+ghost use Rattle.mt_windows.specs.Sending.{queued};
+ghost use Rattle.mt_windows.specs.SendingView.{limits, queued_of};
 ghost use Rattle.carrier.specs.Due.{IsNextDue};
 ghost use Rattle.carrier.specs.Entries.{Entry, Gave, In, Polled, Pulled, Owed};
 ghost use Rattle.carrier.specs.Law.{Faithful};
+ghost use Rattle.carrier.specs.Sending.{acts};
 ghost use Rattle.carrier.specs.States.{give_answer, written};
 ghost use Rattle.carrier.specs.declared.state.LinkState.TheVariants.{Open, Closed as IsClosed};
 ghost use Rattle.carrier.specs.declared.state.Took.TheVariants.{Ignored};
@@ -190,7 +192,9 @@ impl Carrier for Udp1Core {
     }
 
     fn queued(&self) -> usize
-        ensures { result ≡ queued_of self.now.sender.outbox }
+        ensures value { result ≡ queued_of self.now.sender.outbox }
+        ensures history { (t : Trace Entry) → Stands self.now t →
+            result ≡ queued limits (acts (layout_of self.now) t) }
     {
         self.machine.queued()
     }

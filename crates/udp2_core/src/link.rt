@@ -3,10 +3,12 @@
 ghost use Rattle.std.specs.Prelude.{◌≡◌, [], IfOk};
 ghost use Rattle.mt_base.specs.Trace.{Trace, Start, ◌▷◌};
 ghost use Rattle.mt_windows.specs.ArrivedView.{left_of};
-ghost use Rattle.mt_windows.specs.SendingView.{queued_of};
+ghost use Rattle.mt_windows.specs.Sending.{queued};
+ghost use Rattle.mt_windows.specs.SendingView.{limits, queued_of};
 ghost use Rattle.carrier.specs.Due.{IsNextDue};
 ghost use Rattle.carrier.specs.Entries.{Entry, Owed};
 ghost use Rattle.carrier.specs.Law.{Faithful};
+ghost use Rattle.carrier.specs.Sending.{acts};
 ghost use Rattle.carrier.specs.declared.state.LinkState.TheVariants.{Open};
 ghost use Rattle.udp2_core.specs.SecondLayout.{second_layout};
 ghost use Rattle.udp2_core.specs.MachineView.{Stands, condition_of};
@@ -103,7 +105,11 @@ impl Carrier for Udp2Core {
         self.machine.pull(out)
     }
 
-    fn queued(&self) -> usize {
+    fn queued(&self) -> usize
+        ensures value { result ≡ queued_of self.now.sender.outbox }
+        ensures history { (t : Trace Entry) → Stands self.now t →
+            result ≡ queued limits (acts second_layout t) }
+    {
         self.machine.queued()
     }
 
