@@ -5,3 +5,7 @@ mod SendLemmas
 mod Steps
 mod Polls
 mod Dues
+mod OneWay
+mod TwoWays
+mod JoinedLossy
+mod OneLossy
