@@ -25,7 +25,7 @@ use Rattle.udp_open.specs.LinkTrace.{has_syn, layout_by}
 
 -- ---- what an open link reads
 
--- the first of two readings is that of a datagram whose flag SYN is set: it belongs to the opening
+-- a datagram that is read so, unless its flag SYN is set: then it belongs to the opening
 abbrev pub plain : List ℕ → Reading → Reading
 plain datagram r = if has_syn datagram then Refuses reason.NotOurs else r
 
