@@ -18,18 +18,18 @@ law = (
   },
   record { unsent_fits = omega arith; reliable_fits = omega arith; lossy_fits = omega arith },
   (
-    (tt, refl, refl, record { asked = tt; unattached = refl; unrefused = refl }),
+    (tt, refl, tt, refl, record { asked = tt; unattached = refl; unrefused = refl }),
     record { unsent_fits = omega arith; reliable_fits = omega arith; lossy_fits = omega arith },
     (
-      (refl, tt),
+      (refl, refl, tt),
       record { unsent_fits = omega arith; reliable_fits = omega arith; lossy_fits = omega arith },
       (
-        (refl, tt),
+        (refl, refl, tt),
         record { unsent_fits = omega arith; reliable_fits = omega arith; lossy_fits = omega arith },
         (
-          (refl, tt),
+          (refl, refl, tt),
           record { unsent_fits = omega arith; reliable_fits = omega arith; lossy_fits = omega arith },
-          ((tt, refl, refl, tt), record { unsent_fits = omega arith; reliable_fits = omega arith; lossy_fits = omega arith }, tt),
+          ((tt, refl, tt, refl, tt), record { unsent_fits = omega arith; reliable_fits = omega arith; lossy_fits = omega arith }, tt),
         ),
       ),
     ),

@@ -1,5 +1,5 @@
 -- The law of an end's calls.
-use Rattle.std.specs.Prelude.{◌≡◌, ℕ, ◌+◌, ◌≤◌, Bool, true, false, not, List, [], ◌++◌, length, take, drop, Option, Some, None}
+use Rattle.std.specs.Prelude.{◌≡◌, ℕ, ◌+◌, ◌^◌, ◌<◌, ◌≤◌, Bool, true, false, not, List, [], ◌++◌, length, take, drop, All, Option, Some, None}
 use Rattle.mt_base.specs.declared.kinds.Kind.{Kind}
 use Rattle.mt_base.specs.declared.kinds.Kind.TheVariants.{Reliable, Lossy}
 use Rattle.mt_base.specs.declared.kinds.Role.{Role}
@@ -97,6 +97,13 @@ IsOwn (Syncs reliable lossy) = Unit {0}
 IsOwn (Closes id) = Unit {0}
 IsOwn act = ⊥
 
+-- the bytes that a call is given are bytes, and its numbers have 32 bits
+abbrev pub IsGiven : Act → Type 0
+IsGiven (Sends id message) = All (λ b. b < 2 ^ 8) message
+IsGiven (Asks kind id cookie) = (id < 2 ^ 32) × All (λ b. b < 2 ^ 8) cookie
+IsGiven (Refuses kind hr) = hr < 2 ^ 32
+IsGiven act = Unit {0}
+
 -- a broken end hands out messages, and makes no other step
 abbrev pub IsAllowed : Past → Act → Type 0
 IsAllowed p (Takes id message) = Unit {0}
@@ -161,9 +168,10 @@ IsWireIn false role t kind took load came pulls parts lack = TakesNone took came
 -- each call does what the calls before it ask for
 abbrev pub IsCall : Role → Trace Entry → Entry → Type 0
 IsCall role t (Own act) =
-    IsOwn act × IsAllowed (past role t) act × (begins act ≡ not (is_begun (acts role t))) × IsStep role (acts role t) act
+    IsOwn act × IsAllowed (past role t) act × IsGiven act × (begins act ≡ not (is_begun (acts role t)))
+    × IsStep role (acts role t) act
 IsCall role t (MainIn offered count load lack) =
-    IsCount role (outset role t load) offered count lack × IsMainLack role (past role t) offered lack
+    (is_begun (acts role t) ≡ true) × IsCount role (outset role t load) offered count lack × IsMainLack role (past role t) offered lack
 IsCall role t (MainOut room bytes) = bytes ≡ take room (unsent role t)
 IsCall role t (WireIn kind now datagram took load came pulls parts lack) =
     IsWireIn (is_attached kind (acts role t)) role t kind took load came pulls parts lack
