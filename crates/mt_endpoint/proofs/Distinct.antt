@@ -174,7 +174,7 @@ each_away id seen (x ∷ xs) all h k =
       swapped : (id x : ℕ) (seen xs : List ℕ) → EachNew (x ∷ id ∷ seen) xs → EachNew (id ∷ x ∷ seen) xs
       swapped id x seen xs h = same_seen (x ∷ id ∷ seen) (id ∷ x ∷ seen) xs (λ z k. swap (eqb x z) (eqb id z) (is_among z seen) k) h
 
-no_more : (seen xs all : List ℕ) → EachNew seen xs → EachAmong all xs → length xs ≤ length all
+pub no_more : (seen xs all : List ℕ) → EachNew seen xs → EachAmong all xs → length xs ≤ length all
 no_more seen [] all h k = omega arith
 no_more seen (x ∷ xs) all h k =
     let less = one_less x all k.0 in
@@ -204,7 +204,7 @@ each_later : (all more xs : List ℕ) → ((id : ℕ) → is_among id all ≡ tr
 each_later all more [] later h = tt
 each_later all more (x ∷ xs) later h = (later x h.0, each_later all more xs later h.1)
 
-requested_among : (t : Trace Act) (ids : List ℕ) → EndOfActs Server t → MayMove t ids → EachAmong (channels_of Server (spoken Server t)) ids
+pub requested_among : (t : Trace Act) (ids : List ℕ) → EndOfActs Server t → MayMove t ids → EachAmong (channels_of Server (spoken Server t)) ids
 requested_among t ids e m = may_among t (channels_of Server (spoken Server t)) ids (λ id h. told_known Server t id e (known_open Server id t h)) m
 
 new_among : (t : Trace Act) (act : Act) → EndOfActs Server (t ▷ act) → EachAmong (channels_of Server (spoken Server t)) (ids_of (made_by act))
@@ -231,7 +231,7 @@ most_act t (Hears (Spoken pdu)) a h = subst (λ l. length l ≤ 256) (sym (ids_s
 most_act t (Releases kind at bytes pdu) a h = subst (λ l. length l ≤ 256) (sym (ids_said pdu (said pdu) (table Server t))) h
 most_act t act a h = h
 
-most_channels : (t : Trace Act) → EndOfActs Server t → length (channels.ids (table Server t)) ≤ 256
+pub most_channels : (t : Trace Act) → EndOfActs Server t → length (channels.ids (table Server t)) ≤ 256
 most_channels Start e = omega arith
 most_channels (t ▷ act) e = most_act t act e.1 (most_channels t e.2)
 
