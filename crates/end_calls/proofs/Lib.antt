@@ -1,3 +1,12 @@
 mod Examples
 mod Verdicts
 mod Within
+mod Each
+mod Spelled
+mod Fitting
+mod Writes
+mod Fronts
+mod Reading
+mod Back
+mod Standing
+mod Running
