@@ -146,7 +146,7 @@ front_carried kind role _ _ (shorter t u act f) =
     front-trans (carried kind role t) (carried kind role u) (carried kind role (u ▷ act)) (front_carried kind role t u f) (front-append (carried kind role u) (into kind (is_silent kind u) (adds role u act)))
 
 -- a front of what was picked is picked
-front_picked : {A : Type 0} (xs ys zs : List A) → IsPrefixOf xs ys → IsPickOf ys zs → IsPickOf xs zs
+pub front_picked : {A : Type 0} (xs ys zs : List A) → IsPrefixOf xs ys → IsPickOf ys zs → IsPickOf xs zs
 front_picked xs ys zs h k =
     pick-trans xs ys zs (pick-at (xs ++ []) xs (xs ++ h.0) ys (append-nil xs) (sym h.1) (pick-append xs xs [] h.0 (pick-same xs) (pick-nothing h.0))) k
 

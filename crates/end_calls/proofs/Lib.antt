@@ -10,3 +10,8 @@ mod Reading
 mod Back
 mod Standing
 mod Running
+mod Stepping
+mod Onward
+mod Given
+mod Taken
+mod TwoEnds

@@ -102,7 +102,7 @@ one_value text hs v part byte all a b =
     ∙ sym (flat_map-append text hs (v ∷ [])) ∙ sym (append-nil (flat_map text (hs ++ v ∷ [])))
 
 -- a value that did not come
-none_more : {V : Type 0} (text : V → List ℕ) (hs : List V) (part all : List ℕ) → all ≡ flat_map text hs ++ part → all ≡ flat_map text (hs ++ []) ++ part
+pub none_more : {V : Type 0} (text : V → List ℕ) (hs : List V) (part all : List ℕ) → all ≡ flat_map text hs ++ part → all ≡ flat_map text (hs ++ []) ++ part
 none_more text hs part all h = h ∙ ap (λ l. flat_map text l ++ part) (sym (append-nil hs))
 
 pub main_byte : (role : Role) (there : Trace Act) (p : Past) (taken pulled : List ℕ) (handed : List (List ℕ)) (byte : ℕ) → Spelled (other role) there → On role there p taken pulled handed

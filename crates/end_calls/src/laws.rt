@@ -12,6 +12,7 @@ ghost use Rattle.end_calls.specs.Streams.{Past, with_tunnel, verdict_by};
 ghost use Rattle.end_calls.specs.Calls.{Entry, after_bytes};
 ghost use Rattle.end_calls.specs.Example.{Shows};
 ghost use Rattle.end_calls.specs.Law.{EndTrace, IsWithin};
+ghost use Rattle.end_calls.specs.Net.{Net, Safe};
 
 /// A client by hand, worked out on the definitions byte by byte: capabilities that come in two
 /// pieces, a tunnel that is asked for and opens, and a byte that is no frame.
@@ -37,4 +38,14 @@ pub fn verdicts_are_of_the_table()
 /// What waits on the main stream, and what is held of each tunnel, keeps its limits.
 pub fn queues_keep_their_limits()
     ensures { (role : Role) (t : Trace Entry) → EndTrace role t → IsWithin role t }
+{}
+
+/// Two ends of a session, call by call, with their bytes. Each keeps the law of its calls, and what it
+/// took left the other: the front of the main stream, the front of what the reliable link was given, and
+/// some of the parts that were posted on the lossy one, in order. Then what is delivered on a channel was
+/// sent on it, as `mt_endpoint::delivered_was_sent` says, in both directions and at each place of the
+/// list; what waits and what is held keeps its limits; and neither end has a fault but want of memory.
+/// How the streams are cut into calls, and where memory is wanting, makes no difference to that.
+pub fn two_ends_in_bytes()
+    ensures { (w : Trace (Role × Entry)) → Net w → Safe w }
 {}
