@@ -1,4 +1,5 @@
 mod Examples
+mod Playing
 mod Verdicts
 mod Within
 mod Each

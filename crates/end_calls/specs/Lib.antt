@@ -7,3 +7,4 @@ pub mod Net
 pub mod Refusing
 pub mod Counting
 pub mod Example
+pub mod Session

@@ -13,6 +13,7 @@ ghost use Rattle.end_calls.specs.Calls.{Entry, after_bytes};
 ghost use Rattle.end_calls.specs.Example.{Shows};
 ghost use Rattle.end_calls.specs.Law.{EndTrace, IsWithin};
 ghost use Rattle.end_calls.specs.Net.{Net, Safe};
+ghost use Rattle.end_calls.specs.Session.{capable, Shown};
 
 /// A client by hand, worked out on the definitions byte by byte: capabilities that come in two
 /// pieces, a tunnel that is asked for and opens, and a byte that is no frame.
@@ -48,4 +49,11 @@ pub fn queues_keep_their_limits()
 /// How the streams are cut into calls, and where memory is wanting, makes no difference to that.
 pub fn two_ends_in_bytes()
     ensures { (w : Trace (Role × Entry)) → Net w → Safe w }
+{}
+
+/// Two ends that tell each other their capabilities, call by call and byte by byte:
+/// [`two_ends_in_bytes`] speaks of them.
+pub fn two_ends_by_hand()
+    ensures net { Net capable }
+    ensures shown { Shown }
 {}

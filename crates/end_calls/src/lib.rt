@@ -14,7 +14,7 @@ mod refusal;
 pub use counters::Counters;
 pub use fault::{Fault, Place};
 pub use laws::{
-    a_client_in_bytes, cuts_do_not_matter, queues_keep_their_limits, two_ends_in_bytes,
+    a_client_in_bytes, cuts_do_not_matter, queues_keep_their_limits, two_ends_by_hand, two_ends_in_bytes,
     verdicts_are_of_the_table,
 };
 pub use limits::{
