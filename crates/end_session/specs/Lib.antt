@@ -1,0 +1,2 @@
+pub mod AskedView
+pub mod Known

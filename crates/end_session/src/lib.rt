@@ -1,0 +1,19 @@
+//! The parts of one end of a session that are its own: the bytes of the main stream that wait, how far
+//! a stream was read, and what is known of a tunnel. The end itself, which joins them with channels,
+//! paths, held PDUs and links, is still to come.
+//!
+//! Below it stand `end_calls` and `mt_endpoint`, whose definitions the parts follow: a [`MainQueue`] is
+//! the list of the bytes in it, a [`Stream`] is the value under way, and a [`Tunnel`] is what acts have
+//! told of it, by which it is asked for, open, refused or silent.
+#![tactic(auto)]
+
+mod queue;
+mod stream;
+mod tunnel;
+
+pub use queue::MainQueue;
+pub use stream::Stream;
+pub use tunnel::{Asked, Tunnel, TunnelState};
+
+#[cfg(test)]
+mod tests;
