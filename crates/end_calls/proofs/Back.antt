@@ -1,17 +1,13 @@
 -- What was written is read back: frames, tunnel PDUs, and what they carry.
-use Rattle.std.proofs.Common.{◌≡◌, ℕ, ◌+◌, ◌==◌, ◌<◌, eqb, Bool, true, false, cond, List, [], ◌∷◌, ◌++◌, map, length, Option, Some, None, Result, Ok, Err, refl, sym, ap, subst, ◌∙◌, arith, append-nil, eq-eqb}
+use Rattle.std.proofs.Common.{◌≡◌, ℕ, cond, List, [], ◌∷◌, ◌++◌, map, length, Option, Some, None, Ok, refl, sym, ap, subst, ◌∙◌, arith, append-nil, eq-eqb}
 use Rattle.std.specs.List.{flat_map}
 use Rattle.mt_base.specs.Prefix.{IsPickOf, none, taken, passed}
-use Rattle.mt_base.specs.Writing.{joined}
 use Rattle.mt_base.specs.declared.kinds.Role.{Role}
 use Rattle.mt_base.specs.Ends.{other}
-use Rattle.dvc_pdus.specs.declared.pdu.DvcRefusal.{DvcRefusal}
 use Rattle.dvc_pdus.specs.Value.{Pdu, spelled, IsPdu}
 use Rattle.dvc_pdus.specs.Reading as dvc
 use Rattle.dvc_pdus.proofs.Theorems.{written_is_read}
-use Rattle.tunnel_pdus.specs.declared.part.Part.{Part}
-use Rattle.tunnel_pdus.specs.declared.part.Part.TheVariants.{Whole, More}
-use Rattle.tunnel_pdus.specs.declared.part.TunnelRefusal.{TunnelRefusal}
+use Rattle.tunnel_pdus.specs.declared.part.Part.TheVariants.{Whole}
 use Rattle.tunnel_pdus.specs.Value as tunnel
 use Rattle.tunnel_pdus.specs.Reading.{reading, frame_reading, frame_at, kind_at, pdu_at, action_at}
 use Rattle.tunnel_pdus.proofs.Frames as frames

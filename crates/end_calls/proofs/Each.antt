@@ -1,8 +1,8 @@
 -- What holds of each element of a list.
-use Rattle.std.proofs.Common.{ℕ, List, [], ◌∷◌, ◌++◌, map}
-use Rattle.std.specs.List.{All, flat_map}
+use Rattle.std.proofs.Common.{List, [], ◌∷◌, ◌++◌, map}
+use Rattle.std.specs.List.{All}
 use Rattle.std.proofs.lemmas.List.Elements.{All-head, All-tail}
-use Rattle.mt_base.specs.Prefix.{IsPrefixOf, IsPickOf, none, taken, passed}
+use Rattle.mt_base.specs.Prefix.{IsPickOf, none, taken, passed}
 
 abbrev pub Each : {X : Type 0} → (X → Type 0) → List X → Type 0
 Each P [] = Unit {0}

@@ -1,20 +1,19 @@
 -- What fits its layout: frames and tunnel PDUs that an end may write.
-use Rattle.std.proofs.Common.{◌≡◌, ℕ, ◌+◌, ◌*◌, ◌^◌, ◌<◌, ◌≤◌, ◌==◌, Bool, true, false, ◌||◌, cond, eqb, nat_lt, List, [], ◌∷◌, ◌++◌, map, length, Option, Some, None, refl, sym, ap, subst, ◌∙◌, arith}
+use Rattle.std.proofs.Common.{◌≡◌, ℕ, ◌^◌, ◌<◌, ◌≤◌, Bool, true, false, ◌||◌, cond, eqb, nat_lt, List, [], ◌∷◌, ◌++◌, length, refl, sym, subst, arith}
 use Rattle.std.specs.List.{All}
 use Rattle.std.proofs.lemmas.Bool.{eqb-true}
 use Rattle.mt_base.specs.declared.kinds.Kind.{Kind}
 use Rattle.mt_base.specs.declared.kinds.Role.{Role}
 use Rattle.mt_base.specs.declared.kinds.Role.TheVariants.{Server, Client}
 use Rattle.mt_base.specs.Trace.{Trace, Start, ◌▷◌}
-use Rattle.dvc_pdus.specs.Value.{Pdu, Caps, CreateRequest, CreateResponse, DataFirst, Data, CompressedFirst, Compressed, Close, SyncRequest, SyncResponse, spelled, IsPdu}
+use Rattle.dvc_pdus.specs.Value.{CreateRequest, CreateResponse, spelled, IsPdu}
 use Rattle.tunnel_pdus.specs.Value.{AreBytes, FitsFrame, FitsPdu}
 use Rattle.mt_endpoint.specs.Acts.{Act, Heard, TunnelAsked, TunnelAnswered, Spoken, Drawn, CreateAsked, CreateAnswered, Nothing, Carried}
-use Rattle.mt_endpoint.specs.Said.{said}
 use Rattle.mt_endpoint.specs.Tunnels.{Request, same_kind}
 use Rattle.mt_endpoint.specs.Orders.{is_among, channels_of}
 use Rattle.mt_endpoint.specs.Writing.{Written, OnMain, Into, on_main, into, unless, frame_of, tunnel_pdu_of}
 use Rattle.end_calls.specs.Law.{IsGiven}
-use Rattle.end_calls.proofs.Each.{Each, each-append}
+use Rattle.end_calls.proofs.Each.{Each}
 use Rattle.end_calls.proofs.Spelled.{spelled_bytes, spelled_some}
 
 -- an id and a cookie as their fields have them

@@ -1,12 +1,12 @@
 -- Fronts of the acts of an end, and what an act makes due.
-use Rattle.std.proofs.Common.{◌≡◌, ℕ, Bool, true, false, ◌||◌, cond, List, [], ◌∷◌, ◌++◌, Option, Some, None, refl, sym, ap, subst, ◌∙◌, append-nil}
+use Rattle.std.proofs.Common.{◌≡◌, ℕ, Bool, true, false, ◌||◌, cond, List, [], ◌∷◌, ◌++◌, Option, Some, None, refl, sym, subst, append-nil}
 use Rattle.mt_base.specs.declared.kinds.Kind.{Kind}
 use Rattle.mt_base.specs.declared.kinds.Kind.TheVariants.{Reliable, Lossy}
 use Rattle.mt_base.specs.declared.kinds.Role.{Role}
 use Rattle.mt_base.specs.declared.kinds.Role.TheVariants.{Server, Client}
 use Rattle.mt_base.specs.Ends.{other}
 use Rattle.mt_base.specs.Prefix.{IsPrefixOf, IsPickOf}
-use Rattle.mt_base.specs.Trace.{Trace, Start, ◌▷◌}
+use Rattle.mt_base.specs.Trace.{Trace, ◌▷◌}
 use Rattle.mt_base.proofs.Prefixes.{front-same, front-append, front-trans, pick-same, pick-nothing, pick-append, pick-trans, pick-at}
 use Rattle.dvc_pdus.specs.Value.{Pdu}
 use Rattle.soft_sync.specs.declared.kinds.Kinds.{Kinds}
@@ -19,8 +19,7 @@ use Rattle.mt_endpoint.specs.Holding.{Held, held, only}
 use Rattle.mt_endpoint.specs.Writing.{adds, on_main, into, spoken, carried}
 use Rattle.mt_endpoint.specs.Faults.{Why, release_fault}
 use Rattle.mt_endpoint.specs.Growing.{Grown, fine, answer_all, answered, released, release_all, freed, grown}
-use Rattle.mt_endpoint.specs.World.{heard_in, drawn_in, hears, draws, is_begun}
-use Rattle.mt_endpoint.specs.Meeting.{HasLeft}
+use Rattle.mt_endpoint.specs.World.{heard_in, drawn_in, hears, draws}
 use Rattle.mt_endpoint.specs.Alone.{EndOfActs}
 use Rattle.mt_endpoint.proofs.Growth.{pick_front}
 use Rattle.mt_endpoint.proofs.Walking.{Place}

@@ -1,5 +1,5 @@
 -- What the links of an end were given, and what was taken of them, call by call.
-use Rattle.std.proofs.Common.{◌≡◌, ℕ, zero, suc, ◌+◌, ◌≤◌, Bool, true, false, not, cond, List, [], ◌∷◌, ◌++◌, map, length, take, drop, Option, Some, None, is_some, option_map, Result, Ok, Err, refl, sym, ap, subst, ◌∙◌, arith, append_assoc, append-nil}
+use Rattle.std.proofs.Common.{◌≡◌, ℕ, zero, suc, ◌+◌, ◌≤◌, Bool, true, false, cond, List, [], ◌∷◌, ◌++◌, map, length, take, drop, Option, Some, None, option_map, refl, sym, ap, subst, ◌∙◌, arith, append_assoc, append-nil}
 use Rattle.std.specs.List.{flat_map, fold}
 use Rattle.std.proofs.lemmas.Grind.{flat_map-append}
 use Rattle.std.proofs.lemmas.List.{drop_at}
@@ -9,32 +9,21 @@ use Rattle.mt_base.specs.declared.kinds.Role.{Role}
 use Rattle.mt_base.specs.declared.kinds.Role.TheVariants.{Server, Client}
 use Rattle.mt_base.specs.Prefix.{IsPrefixOf}
 use Rattle.mt_base.specs.Trace.{Trace, Start, ◌▷◌}
-use Rattle.mt_base.proofs.Prefixes.{front-same, front-append, front-trans}
 use Rattle.carrier.specs.declared.state.LinkState.{LinkState}
 use Rattle.carrier.specs.declared.state.LinkState.TheVariants.{Opening, Open, Closed}
 use Rattle.carrier.specs.declared.state.Took.{Took}
 use Rattle.carrier.specs.Entries.{given, pulled, posted, Gave, Pulled, Posted, Next, In, Polled}
 use Rattle.carrier.specs.Entries as link
-use Rattle.dvc_pdus.specs.declared.pdu.DvcRefusal.{DvcRefusal}
 use Rattle.soft_sync.specs.Exchanges.{Request}
-use Rattle.tunnel_pdus.specs.declared.part.Part.{Part}
-use Rattle.tunnel_pdus.specs.declared.part.Part.TheVariants.{Whole, More}
-use Rattle.tunnel_pdus.specs.declared.part.TunnelRefusal.{TunnelRefusal}
-use Rattle.tunnel_pdus.specs.Value as tunnel
-use Rattle.tunnel_pdus.specs.Reading.{reading, frame_reading}
-use Rattle.mt_endpoint.specs.Acts.{Act, Sends, Takes, Silences, Hears, Answers, Heard, Drawn}
-use Rattle.mt_endpoint.specs.Faults.{Why, main_fault, tunnel_fault}
-use Rattle.mt_endpoint.specs.Growing.{answer_all, answered, grown}
+use Rattle.mt_endpoint.specs.Acts.{Act, Sends, Silences, Answers, Drawn}
+use Rattle.mt_endpoint.specs.Growing.{answer_all, answered}
 use Rattle.mt_endpoint.specs.Moving.{read, unanswered_in, may_answer, answer_to}
-use Rattle.mt_endpoint.specs.Tunnels.{is_attached, is_silent, same_kind}
-use Rattle.mt_endpoint.specs.Writing.{adds, into, carried, tunneled}
-use Rattle.mt_endpoint.proofs.Growth.{grown_keeps}
-use Rattle.end_calls.specs.Streams.{Past, is_broken, on_main, in_tunnel, grows, reads, reads_heard, reads_drawn, main_reads, tunnel_reads, with_main, with_tunnel, with_part, heard_by, drawn_by, drawing, missed_or, if_whole, written}
+use Rattle.mt_endpoint.specs.Tunnels.{is_attached, is_silent}
+use Rattle.mt_endpoint.specs.Writing.{carried, tunneled}
+use Rattle.end_calls.specs.Streams.{Past, is_broken, grows, with_main, written}
 use Rattle.end_calls.specs.Calls.{Entry, Own, MainIn, MainOut, WireIn, WireOut, Pull, Handed, Came, lacking, after_bytes, after_pulls, after_parts, read_count, bare, steps, if_steps, before_poll, closed_act, polled, story, past, acts}
-use Rattle.end_calls.specs.Stops.{Outset, pulled_bytes, handed_parts, is_link_stopped}
-use Rattle.end_calls.specs.Law.{IsFront, IsLack, IsMainLack, IsLinkLack, IsCall, IsWireIn, TakesIn, TakesNone, outset, is_some_lack}
+use Rattle.end_calls.specs.Law.{IsFront, IsMainLack, IsLinkLack, IsCall, IsWireIn, outset}
 use Rattle.end_calls.specs.Links.{gives, gives_bytes, gives_joined, gives_all, gives_own, by_bytes, pulls_from, by_pulls, takes_from, by_parts, of_pulls, asks_once_more, takes_in, reads_in, polls, linked}
-use Rattle.end_calls.specs.Net.{if_part, handed_out}
 use Rattle.end_calls.proofs.Fronts.{front_carried}
 use Rattle.end_calls.proofs.Onward.{Goes, goes_byte, goes_run, goes_part, goes_steps, goes_if}
 

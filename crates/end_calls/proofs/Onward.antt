@@ -1,5 +1,5 @@
 -- The acts of an end only go on.
-use Rattle.std.proofs.Common.{◌≡◌, ℕ, ◌+◌, Bool, true, false, cond, List, [], ◌∷◌, ◌++◌, length, take, Option, Some, None, option_map, Result, Ok, Err, refl, sym, ap, subst, ◌∙◌}
+use Rattle.std.proofs.Common.{ℕ, ◌+◌, Bool, true, false, cond, List, [], ◌∷◌, ◌++◌, length, take, Option, Some, None, option_map, Result, Ok, Err, sym, subst}
 use Rattle.std.specs.List.{fold}
 use Rattle.mt_base.specs.declared.kinds.Kind.{Kind}
 use Rattle.mt_base.specs.declared.kinds.Kind.TheVariants.{Reliable, Lossy}
@@ -15,7 +15,6 @@ use Rattle.tunnel_pdus.specs.Value as tunnel
 use Rattle.tunnel_pdus.specs.Reading.{reading, frame_reading}
 use Rattle.mt_endpoint.specs.Acts.{Act, Takes, Silences, Hears, Heard, Drawn}
 use Rattle.mt_endpoint.specs.Faults.{Why, main_fault, tunnel_fault}
-use Rattle.mt_endpoint.specs.Growing.{grown}
 use Rattle.mt_endpoint.specs.Tunnels.{is_attached, is_silent}
 use Rattle.end_calls.specs.Streams.{Past, is_broken, on_main, in_tunnel, grows, reads, reads_heard, reads_drawn, main_reads, tunnel_reads, with_main, with_tunnel, with_part, heard_by, drawn_by, drawing, missed_or, if_whole}
 use Rattle.end_calls.specs.Calls.{Entry, Own, MainIn, MainOut, WireIn, WireOut, Pull, Handed, Came, lacking, after_bytes, after_pulls, after_parts, read_count, bare, steps, if_steps, before_poll, closed_act, polled, story, past, acts}

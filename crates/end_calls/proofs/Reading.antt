@@ -1,7 +1,7 @@
 -- One more byte of a stream that was written: the value under way goes on, or it is whole and the next
 -- of those that were written.
-use Rattle.std.proofs.Common.{◌≡◌, ℕ, ◌+◌, ◌<◌, ◌≤◌, List, [], ◌∷◌, ◌++◌, length, Result, Ok, Err, refl, sym, ap, subst, ◌∙◌, arith, append_assoc, append-nil, length-append}
-use Rattle.std.specs.List.{All, flat_map}
+use Rattle.std.proofs.Common.{◌≡◌, ℕ, ◌<◌, List, [], ◌∷◌, ◌++◌, length, Result, Ok, Err, sym, ap, subst, ◌∙◌, arith, append_assoc, append-nil, length-append}
+use Rattle.std.specs.List.{flat_map}
 use Rattle.std.proofs.lemmas.Grind.{flat_map-append}
 use Rattle.std.proofs.lemmas.List.{append_cancel_left}
 use Rattle.std.proofs.lemmas.List.Elements.{All-head, All-tail, All-cons, All-nil}
@@ -12,7 +12,7 @@ use Rattle.mt_base.proofs.Prefixes.{Cut, first, second, cut_in_two}
 use Rattle.tunnel_pdus.specs.declared.part.Part.{Part}
 use Rattle.tunnel_pdus.specs.declared.part.Part.TheVariants.{Whole, More}
 use Rattle.tunnel_pdus.proofs.Grammars.{Grammar, Decided, whole, faulty, waiting}
-use Rattle.end_calls.proofs.Each.{Each, each_first, each_second}
+use Rattle.end_calls.proofs.Each.{Each, each_second}
 
 -- bytes are the beginning of a value
 abbrev pub IsPartial : {W R : Type 0} → (List ℕ → Result (Part W) R) → List ℕ → Type 0

@@ -1,11 +1,9 @@
 -- An end over many bytes and parts, and one that stops for want of memory.
-use Rattle.std.proofs.Common.{◌≡◌, ℕ, ◌+◌, ◌≤◌, Bool, true, false, not, cond, List, [], ◌∷◌, ◌++◌, map, length, take, drop, Option, Some, None, is_some, option_map, refl, sym, ap, subst, ◌∙◌, arith, append_assoc, append-nil}
+use Rattle.std.proofs.Common.{◌≡◌, ℕ, Bool, List, [], ◌∷◌, ◌++◌, map, take, drop, Option, Some, None, option_map, refl, sym, ap, subst, ◌∙◌, append_assoc, append-nil}
 use Rattle.std.specs.List.{flat_map, fold}
 use Rattle.std.proofs.lemmas.List.{take-append-drop}
-use Rattle.mt_base.specs.declared.kinds.Kind.{Kind}
 use Rattle.mt_base.specs.declared.kinds.Kind.TheVariants.{Reliable, Lossy}
 use Rattle.mt_base.specs.declared.kinds.Role.{Role}
-use Rattle.mt_base.specs.declared.kinds.Role.TheVariants.{Server, Client}
 use Rattle.mt_base.specs.Ends.{other}
 use Rattle.mt_base.specs.Prefix.{IsPrefixOf, IsPickOf}
 use Rattle.mt_base.specs.Trace.{Trace, Start, ◌▷◌}
@@ -16,9 +14,9 @@ use Rattle.mt_endpoint.proofs.Walking.{Place}
 use Rattle.end_calls.specs.declared.fault.Fault.{Fault}
 use Rattle.end_calls.specs.declared.fault.Fault.TheVariants as fault
 use Rattle.end_calls.specs.Streams.{Past, with_main, with_tunnel, with_part}
-use Rattle.end_calls.specs.Calls.{Pull, Handed, lacking, after_bytes, after_pulls, after_parts, read_count}
+use Rattle.end_calls.specs.Calls.{Pull, Handed, lacking, after_bytes, after_pulls, after_parts}
 use Rattle.end_calls.specs.Stops.{pulled_bytes, handed_parts}
-use Rattle.end_calls.specs.Law.{IsFront, whole, IsLack, IsMainLack, IsLinkLack}
+use Rattle.end_calls.specs.Law.{IsFront, IsLack, IsMainLack, IsLinkLack}
 use Rattle.end_calls.proofs.Fitting.{EachGiven}
 use Rattle.end_calls.proofs.Fronts.{front_given, front_less, front_picked, place_between}
 use Rattle.end_calls.proofs.Standing.{Spelled, At, On, main_byte, tunnel_byte, one_part}

@@ -1,15 +1,14 @@
 -- What a writer spells for a channel PDU is bytes.
-use Rattle.std.proofs.Common.{◌≡◌, ℕ, zero, suc, ◌+◌, ◌*◌, ◌/◌, ◌%◌, ◌^◌, ◌<◌, ◌≤◌, Bool, true, false, cond, nat_lt, List, [], ◌∷◌, ◌++◌, map, length, Option, Some, None, refl, sym, ap, subst, ◌∙◌, arith}
+use Rattle.std.proofs.Common.{ℕ, zero, suc, ◌+◌, ◌*◌, ◌^◌, ◌<◌, Bool, true, false, cond, nat_lt, List, [], ◌∷◌, map, length, Option, Some, None, arith}
 use Rattle.std.specs.Int.{byte_at, bytes_low_first}
-use Rattle.std.specs.List.{All, flat_map}
-use Rattle.std.proofs.Math.Nat.{mod-lt}
+use Rattle.std.specs.List.{All}
 use Rattle.std.proofs.lemmas.List.Elements.{All-append, All-cons, All-nil, All-head, All-tail}
 use Rattle.mt_base.specs.Writing.{joined}
 use Rattle.mt_base.specs.declared.kinds.Kind.{Kind}
 use Rattle.mt_base.specs.declared.kinds.Role.{Role}
 use Rattle.mt_base.specs.declared.kinds.Role.TheVariants.{Server, Client}
 use Rattle.mt_base.proofs.Numbers.{IsBytes, zero_bytes}
-use Rattle.dvc_pdus.specs.Value.{ChannelList, Pdu, Caps, CreateRequest, CreateResponse, DataFirst, Data, CompressedFirst, Compressed, Close, SyncRequest, SyncResponse, size_code, smallest, header, charge_fields, tunnel_type, type_field, type_fields, id_fields, list_fields, lists_fields, sync_length, fields, spelled, IsNameByte, Fits}
+use Rattle.dvc_pdus.specs.Value.{ChannelList, Pdu, Caps, CreateRequest, CreateResponse, DataFirst, Data, CompressedFirst, Compressed, Close, SyncRequest, SyncResponse, size_code, smallest, header, charge_fields, tunnel_type, type_fields, list_fields, lists_fields, sync_length, fields, spelled, IsNameByte, Fits}
 use Rattle.tunnel_pdus.specs.Value.{Frame, Request, Response, Channel, protocol_code, frame_fields, pdu_fields, FitsFrame, FitsPdu}
 use Rattle.tunnel_pdus.specs.Value as tunnel
 use Rattle.end_calls.proofs.Each.{Each, each-append}

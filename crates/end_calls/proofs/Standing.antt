@@ -1,6 +1,6 @@
 -- An end that read what the other wrote, byte by byte and part by part.
-use Rattle.std.proofs.Common.{◌≡◌, ℕ, ◌+◌, Bool, true, false, not, cond, List, [], ◌∷◌, ◌++◌, map, length, Option, Some, None, is_some, option_map, Result, Ok, Err, refl, sym, ap, subst, ◌∙◌, append_assoc, append-nil}
-use Rattle.std.specs.List.{flat_map, fold}
+use Rattle.std.proofs.Common.{◌≡◌, ℕ, ◌+◌, Bool, true, false, not, cond, List, [], ◌∷◌, ◌++◌, map, length, Option, Some, None, is_some, option_map, refl, sym, ap, subst, ◌∙◌, append_assoc, append-nil}
+use Rattle.std.specs.List.{flat_map}
 use Rattle.std.proofs.lemmas.Grind.{flat_map-append}
 use Rattle.mt_base.specs.declared.kinds.Kind.{Kind}
 use Rattle.mt_base.specs.declared.kinds.Kind.TheVariants.{Reliable, Lossy}
@@ -8,17 +8,12 @@ use Rattle.mt_base.specs.declared.kinds.Role.{Role}
 use Rattle.mt_base.specs.declared.kinds.Role.TheVariants.{Server, Client}
 use Rattle.mt_base.specs.Ends.{other}
 use Rattle.mt_base.specs.Prefix.{IsPrefixOf, IsPickOf}
-use Rattle.mt_base.specs.Trace.{Trace, Start, ◌▷◌}
-use Rattle.mt_base.proofs.Prefixes.{front-trans, front-at, pick-at}
-use Rattle.dvc_pdus.specs.declared.pdu.DvcRefusal.{DvcRefusal}
-use Rattle.dvc_pdus.specs.Value.{Pdu}
-use Rattle.tunnel_pdus.specs.declared.part.Part.{Part}
-use Rattle.tunnel_pdus.specs.declared.part.Part.TheVariants.{Whole, More}
+use Rattle.mt_base.specs.Trace.{Trace, ◌▷◌}
+use Rattle.mt_base.proofs.Prefixes.{front-at, pick-at}
 use Rattle.tunnel_pdus.specs.Reading.{reading, frame_reading}
 use Rattle.tunnel_cookies.specs.Entries.{entry_of}
-use Rattle.mt_endpoint.specs.Acts.{Act, Hears, Draws, Judges, Misses, Heard, Drawn, CreateAsked, CreateAnswered, Nothing, Carried}
+use Rattle.mt_endpoint.specs.Acts.{Act, Hears, Draws, Drawn, CreateAsked, CreateAnswered, Nothing, Carried}
 use Rattle.mt_endpoint.specs.Faults.{Why, main_fault, tunnel_fault}
-use Rattle.mt_endpoint.specs.Growing.{grown}
 use Rattle.mt_endpoint.specs.Tunnels.{issued, same_kind}
 use Rattle.mt_endpoint.specs.Writing.{spoken, carried, framed, tunneled, frame_of, tunnel_pdu_of}
 use Rattle.mt_endpoint.specs.World.{IsStep, HasCome, begins, is_begun, heard_in, drawn_in, hears, draws}
@@ -26,7 +21,7 @@ use Rattle.mt_endpoint.proofs.MainData.{frame_fine}
 use Rattle.mt_endpoint.proofs.Carrying.{tunnel_fine}
 use Rattle.mt_endpoint.proofs.Walking.{Place, meet_at}
 use Rattle.mt_endpoint.proofs.Together.{Stepped, stepped}
-use Rattle.end_calls.specs.Streams.{Past, Under, is_broken, in_tunnel, on_main, fault_at, grows, reads, reads_heard, reads_drawn, main_reads, tunnel_reads, with_main, with_tunnel, with_part, drawing, verdict_by, missed_or, if_whole}
+use Rattle.end_calls.specs.Streams.{Past, Under, in_tunnel, on_main, fault_at, grows, reads, reads_heard, reads_drawn, main_reads, tunnel_reads, with_main, with_tunnel, with_part, drawing, missed_or, if_whole}
 use Rattle.end_calls.specs.Law.{IsGiven}
 use Rattle.end_calls.proofs.Verdicts.{verdict_is}
 use Rattle.end_calls.proofs.Each.{Each}

@@ -1,33 +1,29 @@
 -- Steps of an end's own, and polls of its links.
-use Rattle.std.proofs.Common.{◌≡◌, ℕ, ◌+◌, ◌==◌, Bool, true, false, not, ◌&&◌, cond, List, [], ◌∷◌, ◌++◌, map, length, Option, Some, None, is_some, refl, sym, ap, subst, ◌∙◌, append-nil}
+use Rattle.std.proofs.Common.{◌≡◌, ℕ, ◌==◌, Bool, true, false, not, ◌&&◌, cond, List, [], ◌++◌, Option, Some, None, is_some, refl, sym, ap, subst, ◌∙◌, append-nil}
 use Rattle.std.specs.List.{flat_map}
 use Rattle.mt_base.specs.declared.kinds.Kind.{Kind}
 use Rattle.mt_base.specs.declared.kinds.Kind.TheVariants.{Reliable, Lossy}
 use Rattle.mt_base.specs.declared.kinds.Role.{Role}
 use Rattle.mt_base.specs.declared.kinds.Role.TheVariants.{Server, Client}
 use Rattle.mt_base.specs.Ends.{other}
-use Rattle.mt_base.specs.Prefix.{IsPrefixOf, IsPickOf}
 use Rattle.mt_base.specs.Trace.{Trace, Start, ◌▷◌}
 use Rattle.mt_base.proofs.Prefixes.{front-at, pick-at}
 use Rattle.carrier.specs.declared.state.LinkState.{LinkState}
 use Rattle.carrier.specs.declared.state.LinkState.TheVariants.{Opening, Open, Closed}
 use Rattle.mt_endpoint.specs.Acts.{Act, Began, Opens, Sends, Takes, Asks, Attaches, Repeats, Refuses, Syncs, Closes, Silences, Hears, Draws, Judges, Misses, Answers, Releases, Discards}
-use Rattle.mt_endpoint.specs.Growing.{grown}
 use Rattle.mt_endpoint.specs.Tunnels.{answer, is_silent, is_attached}
 use Rattle.mt_endpoint.specs.Writing.{spoken, carried, framed, tunneled}
-use Rattle.mt_endpoint.specs.World.{IsStep, HasCome, begins, is_begun, heard_in, drawn_in, hears, draws, fault_of}
-use Rattle.mt_endpoint.specs.Alone.{IsAct, EndOfActs}
+use Rattle.mt_endpoint.specs.World.{IsStep, HasCome, begins, is_begun, heard_in, drawn_in, hears, draws}
+use Rattle.mt_endpoint.specs.Alone.{IsAct}
 use Rattle.mt_endpoint.proofs.Walking.{Place, left_more}
 use Rattle.end_calls.specs.declared.fault.Fault.{Fault}
 use Rattle.end_calls.specs.declared.fault.Fault.TheVariants as fault
 use Rattle.end_calls.specs.Streams.{Past, is_broken, grows}
-use Rattle.end_calls.specs.Calls.{Entry, Own, MainIn, MainOut, WireIn, WireOut, Postings, no_postings, Story, told, story, past, acts, is_over, is_due, posts_again, before_poll, closed_act, bare, steps, if_steps, polled, attached_by, polled_at}
-use Rattle.end_calls.specs.Law.{IsOwn, IsAllowed, IsGiven}
-use Rattle.end_calls.proofs.Each.{Each}
+use Rattle.end_calls.specs.Calls.{Entry, Own, MainIn, MainOut, WireIn, WireOut, Postings, no_postings, story, past, acts, is_over, is_due, posts_again, before_poll, closed_act, bare, steps, if_steps, polled, polled_at}
+use Rattle.end_calls.specs.Law.{IsOwn, IsGiven}
 use Rattle.end_calls.proofs.Fitting.{EachGiven}
 use Rattle.end_calls.proofs.Fronts.{attached_more, attached_grown}
-use Rattle.end_calls.proofs.Back.{brings}
-use Rattle.end_calls.proofs.Standing.{Streams, At, On, grown_on, none_more}
+use Rattle.end_calls.proofs.Standing.{At, On, grown_on, none_more}
 use Rattle.end_calls.proofs.Running.{State, reads_on, stopped}
 
 -- an act that reads nothing

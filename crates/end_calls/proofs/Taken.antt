@@ -1,5 +1,5 @@
 -- What was taken of the links of an end, call by call.
-use Rattle.std.proofs.Common.{◌≡◌, ℕ, Bool, true, false, cond, List, [], ◌∷◌, ◌++◌, take, option_map, Option, Some, None, refl, sym, ap, subst, ◌∙◌, append_assoc, append-nil}
+use Rattle.std.proofs.Common.{◌≡◌, ℕ, Bool, true, false, List, [], ◌∷◌, ◌++◌, take, option_map, Option, None, refl, sym, ap, ◌∙◌, append_assoc, append-nil}
 use Rattle.std.specs.List.{flat_map, fold}
 use Rattle.mt_base.specs.declared.kinds.Kind.{Kind}
 use Rattle.mt_base.specs.declared.kinds.Kind.TheVariants.{Reliable, Lossy}
@@ -10,11 +10,10 @@ use Rattle.carrier.specs.declared.state.Took.{Took}
 use Rattle.carrier.specs.Entries.{pulled}
 use Rattle.carrier.specs.Entries as link
 use Rattle.mt_endpoint.specs.Acts.{Act, Sends, Drawn}
-use Rattle.mt_endpoint.specs.Tunnels.{is_attached}
 use Rattle.mt_endpoint.specs.Writing.{tunneled}
 use Rattle.end_calls.specs.Streams.{Past, with_main, written}
-use Rattle.end_calls.specs.Calls.{Entry, Own, MainIn, MainOut, WireIn, WireOut, Pull, Handed, Came, lacking, after_pulls, after_parts, read_count, if_steps, before_poll, story, past, acts}
-use Rattle.end_calls.specs.Stops.{Outset, pulled_bytes, handed_parts}
+use Rattle.end_calls.specs.Calls.{Entry, Own, MainIn, WireOut, Pull, Handed, lacking, after_pulls, after_parts, read_count, if_steps, before_poll, story, past}
+use Rattle.end_calls.specs.Stops.{pulled_bytes, handed_parts}
 use Rattle.end_calls.specs.Law.{outset}
 use Rattle.end_calls.specs.Links.{gives, gives_bytes, gives_joined, gives_all, gives_own, by_bytes, pulls_from, by_pulls, takes_from, by_parts, of_pulls, asks_once_more, takes_in, reads_in, polls, linked}
 use Rattle.end_calls.specs.Net.{handed_out}

@@ -1,5 +1,5 @@
 -- Two ends, call by call.
-use Rattle.std.proofs.Common.{◌≡◌, ℕ, ◌+◌, ◌≤◌, Bool, true, false, not, cond, List, [], ◌∷◌, ◌++◌, map, length, take, drop, Option, Some, None, option_map, refl, sym, ap, subst, ◌∙◌, append-nil}
+use Rattle.std.proofs.Common.{◌≡◌, ℕ, Bool, true, false, cond, List, [], ◌++◌, map, length, take, drop, Option, Some, None, refl, sym, ap, subst, ◌∙◌, append-nil}
 use Rattle.std.specs.List.{flat_map}
 use Rattle.std.proofs.lemmas.List.{take_at}
 use Rattle.mt_base.specs.declared.kinds.Kind.{Kind}
@@ -23,11 +23,11 @@ use Rattle.mt_endpoint.proofs.Together.{turned, safe_at}
 use Rattle.end_calls.specs.declared.fault.Fault.{Fault}
 use Rattle.end_calls.specs.declared.fault.Fault.TheVariants as fault
 use Rattle.end_calls.specs.Streams.{Past}
-use Rattle.end_calls.specs.Calls.{Entry, Own, MainIn, MainOut, WireIn, WireOut, Pull, Handed, Came, lacking, after_bytes, after_pulls, after_parts, past, acts}
+use Rattle.end_calls.specs.Calls.{Entry, Own, MainIn, MainOut, WireIn, WireOut, Pull, Handed, Came, lacking, after_pulls, after_parts, past, acts}
 use Rattle.end_calls.specs.Stops.{pulled_bytes, handed_parts}
-use Rattle.end_calls.specs.Law.{EndTrace, IsCall, IsWireIn, IsMainLack, IsCount, IsWithin, outset, taken_main, given_main}
+use Rattle.end_calls.specs.Law.{IsCall, IsWireIn, IsWithin, outset, taken_main, given_main}
 use Rattle.end_calls.specs.Links.{reads_in, takes_in, linked}
-use Rattle.end_calls.specs.Net.{at, handed_out, main_in, main_out, link_of_side, IsJoined, Net, IsFine, acts_of, Safe}
+use Rattle.end_calls.specs.Net.{at, handed_out, IsJoined, Net, IsFine, acts_of, Safe}
 use Rattle.end_calls.proofs.Within.{within}
 use Rattle.end_calls.proofs.Each.{Each, each_first, each_picked}
 use Rattle.end_calls.proofs.Fitting.{EachGiven, FitsHeard, FitsDrawn}
@@ -35,11 +35,11 @@ use Rattle.end_calls.proofs.Writes.{fit}
 use Rattle.end_calls.proofs.Fronts.{front_spoken}
 use Rattle.end_calls.proofs.Onward.{goes_call}
 use Rattle.end_calls.proofs.Back.{no_frame, no_pdu}
-use Rattle.end_calls.proofs.Standing.{Spelled, At, On}
+use Rattle.end_calls.proofs.Standing.{Spelled}
 use Rattle.end_calls.proofs.Running.{State, reads_on, stopped, state_at, state_place, state_given, main_in as reads_main, main_lacks, main_stopped, link_in, link_stopped}
 use Rattle.end_calls.proofs.Stepping.{own_quiet, own_step, poll_state, attached_begun}
 use Rattle.end_calls.proofs.Given.{Wrote, wrote_call}
-use Rattle.end_calls.proofs.Taken.{Same, own_same, main_same, poll_same, reads_took}
+use Rattle.end_calls.proofs.Taken.{own_same, main_same, poll_same, reads_took}
 
 -- an end with these calls, facing an end with these acts
 pub record Sound (role : Role) (there : Trace Act) (t : Trace Entry) : Type 0 where

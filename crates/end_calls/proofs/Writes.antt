@@ -1,11 +1,9 @@
 -- What an end writes fits its layout, where what it read does and what it was given is of its types.
-use Rattle.std.proofs.Common.{◌≡◌, ◌≢◌, ◌⊎◌, inl, inr, ◌==◌, ℕ, ◌+◌, ◌*◌, ◌^◌, ◌<◌, ◌≤◌, Bool, true, false, cond, List, [], ◌∷◌, ◌++◌, map, length, Option, Some, None, refl, sym, ap, subst, ◌∙◌, arith, length-append}
+use Rattle.std.proofs.Common.{◌≡◌, ◌==◌, ℕ, ◌+◌, ◌*◌, ◌^◌, ◌<◌, ◌≤◌, Bool, true, false, cond, List, [], ◌∷◌, ◌++◌, map, length, Option, Some, None, refl, sym, ap, subst, ◌∙◌, arith, length-append}
 use Rattle.std.specs.Int.{bytes_low_first}
-use Rattle.std.specs.List.{All, flat_map}
+use Rattle.std.specs.List.{All}
 use Rattle.std.specs.Option.{option_or}
-use Rattle.std.proofs.lemmas.Bool.{cases_eq, ne_eqb, eq-eqb}
 use Rattle.std.proofs.lemmas.List.Elements.{All-append, All-cons, All-nil, All-replicate}
-use Rattle.mt_base.specs.Writing.{joined}
 use Rattle.mt_base.specs.declared.kinds.Kind.{Kind}
 use Rattle.mt_base.specs.declared.kinds.Kind.TheVariants.{Reliable, Lossy}
 use Rattle.mt_base.specs.declared.kinds.Role.{Role}
@@ -13,25 +11,24 @@ use Rattle.mt_base.specs.declared.kinds.Role.TheVariants.{Server, Client}
 use Rattle.mt_base.specs.Ends.{other}
 use Rattle.mt_base.specs.Trace.{Trace, Start, ◌▷◌}
 use Rattle.dvc_pdus.specs.Moves.{channels_length}
-use Rattle.dvc_pdus.specs.Value.{ChannelList, Pdu, Caps, CreateRequest, CreateResponse, DataFirst, Data, CompressedFirst, Compressed, Close, SyncRequest, SyncResponse, smallest, spelled, lists_fields, list_to, lists_of, sync_request, IsList, IsName, IsPdu}
+use Rattle.dvc_pdus.specs.Value.{ChannelList, Pdu, Caps, CreateRequest, CreateResponse, DataFirst, Data, CompressedFirst, Compressed, Close, SyncRequest, SyncResponse, smallest, list_to, sync_request, IsList, IsName, IsPdu}
 use Rattle.dvc_pdus.proofs.SyncMoves.{both_bytes}
 use Rattle.dvc_channels.specs.Fragments.{fragments_of}
-use Rattle.dvc_channels.specs.Acts as channels
 use Rattle.dvc_channels.proofs.Sending.{sizes, fragments_sent}
 use Rattle.soft_sync.specs.declared.kinds.Path.{Path}
 use Rattle.soft_sync.specs.declared.kinds.Path.TheVariants.{Main, Tunnel}
 use Rattle.tunnel_cookies.specs.declared.entry.Verdict.{Verdict}
 use Rattle.tunnel_cookies.specs.declared.entry.Verdict.TheVariants as verdict
-use Rattle.mt_endpoint.specs.Acts.{Act, Began, Opens, Sends, Takes, Asks, Attaches, Repeats, Refuses, Syncs, Closes, Silences, Hears, Draws, Judges, Misses, Answers, Releases, Discards, Heard, TunnelAsked, TunnelAnswered, Spoken, Drawn, CreateAsked, CreateAnswered, Nothing, Carried}
+use Rattle.mt_endpoint.specs.Acts.{Act, Began, Opens, Sends, Takes, Asks, Attaches, Repeats, Refuses, Syncs, Closes, Silences, Hears, Draws, Judges, Misses, Answers, Releases, Discards, TunnelAsked, TunnelAnswered, Spoken, CreateAsked, CreateAnswered, Nothing, Carried}
 use Rattle.mt_endpoint.specs.Said.{Said, Capable, Creates, Created, Brings, Ends, Moves, Moved, said}
 use Rattle.mt_endpoint.specs.Channels.{table, has_place, is_closed, is_known}
 use Rattle.mt_endpoint.specs.Holding.{channel_in}
 use Rattle.mt_endpoint.specs.Moving.{outward}
-use Rattle.mt_endpoint.specs.Orders.{is_among, channels_of}
+use Rattle.mt_endpoint.specs.Orders.{channels_of}
 use Rattle.mt_endpoint.specs.Tunnels.{Request, asked, answer, is_silent, same_kind, where_kind, request_in}
-use Rattle.mt_endpoint.specs.Writing.{Written, OnMain, Into, on_path, closing, create_request, told_of, unless, DENIED, create_code, is_full_for, types_of, reply, told_first, adds, on_main, into, spoken, carried}
+use Rattle.mt_endpoint.specs.Writing.{Written, Into, on_path, closing, create_request, told_of, unless, DENIED, create_code, is_full_for, reply, told_first, adds, on_main, into, spoken, carried}
 use Rattle.mt_endpoint.specs.World.{MayMove, IsMove, heard_in, drawn_in, hears, draws}
-use Rattle.mt_endpoint.specs.Alone.{IsAct, IsDue, EndOfActs}
+use Rattle.mt_endpoint.specs.Alone.{IsDue, EndOfActs}
 use Rattle.mt_endpoint.proofs.Known.{known_open, OfKnown, due_known}
 use Rattle.mt_endpoint.proofs.Creating.{told_known, ended_known, channels_are}
 use Rattle.mt_endpoint.proofs.Distinct.{out_all, new_all, no_more, requested_among, most_channels}
