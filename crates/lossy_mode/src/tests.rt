@@ -135,10 +135,12 @@ fn a_window_of_parts_waits_to_be_sent(rt: HostRuntime) -> Result<(), NoMemory> {
 #[test]
 fn a_syn_that_is_never_answered_closes(rt: HostRuntime) -> Result<(), NoMemory> {
     let mut client = link(rt.alloc(), Role::Client, 1)?;
+    assert_eq!(rt; client.next_due(), Some(0));
     for expiry in 0..18 {
         let _ = is_silent(&mut client, 8_000 * expiry);
     }
     let closed = Err(PostRefusal::Closed { expiries: 17 });
     assert_eq!(rt; posts(&mut client, 0x41), closed);
+    assert_eq!(rt; client.state(), LinkState::Closed { expiries: 17 });
     Ok(())
 }
