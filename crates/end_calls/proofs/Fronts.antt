@@ -22,7 +22,7 @@ use Rattle.mt_endpoint.specs.Growing.{Grown, fine, answer_all, answered, release
 use Rattle.mt_endpoint.specs.World.{heard_in, drawn_in, hears, draws}
 use Rattle.mt_endpoint.specs.Alone.{EndOfActs}
 use Rattle.mt_endpoint.proofs.Growth.{pick_front}
-use Rattle.mt_endpoint.proofs.Walking.{Place}
+use Rattle.mt_endpoint.proofs.Together.{Place}
 use Rattle.end_calls.specs.Law.{IsFront, whole, shorter}
 use Rattle.end_calls.proofs.Fitting.{EachGiven}
 

@@ -10,7 +10,7 @@ use Rattle.mt_base.specs.Trace.{Trace, Start, ◌▷◌}
 use Rattle.mt_base.proofs.Prefixes.{front-trans, front-at, front-append, pick-at}
 use Rattle.mt_endpoint.specs.Acts.{Act}
 use Rattle.mt_endpoint.specs.Writing.{spoken, carried, framed, tunneled}
-use Rattle.mt_endpoint.proofs.Walking.{Place}
+use Rattle.mt_endpoint.proofs.Together.{Place}
 use Rattle.end_calls.specs.declared.fault.Fault.{Fault}
 use Rattle.end_calls.specs.declared.fault.Fault.TheVariants as fault
 use Rattle.end_calls.specs.Streams.{Past, with_main, with_tunnel, with_part}

@@ -19,8 +19,7 @@ use Rattle.mt_endpoint.specs.Writing.{spoken, carried, framed, tunneled, frame_o
 use Rattle.mt_endpoint.specs.World.{IsStep, HasCome, begins, is_begun, heard_in, drawn_in, hears, draws}
 use Rattle.mt_endpoint.proofs.MainData.{frame_fine}
 use Rattle.mt_endpoint.proofs.Carrying.{tunnel_fine}
-use Rattle.mt_endpoint.proofs.Walking.{Place, meet_at}
-use Rattle.mt_endpoint.proofs.Together.{Stepped, stepped}
+use Rattle.mt_endpoint.proofs.Together.{Place, meet_at, Stepped, stepped}
 use Rattle.end_calls.specs.Streams.{Past, Under, in_tunnel, on_main, fault_at, grows, reads, reads_heard, reads_drawn, main_reads, tunnel_reads, with_main, with_tunnel, with_part, drawing, missed_or, if_whole}
 use Rattle.end_calls.specs.Law.{IsGiven}
 use Rattle.end_calls.proofs.Verdicts.{verdict_is}

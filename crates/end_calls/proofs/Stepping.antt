@@ -15,7 +15,7 @@ use Rattle.mt_endpoint.specs.Tunnels.{answer, is_silent, is_attached}
 use Rattle.mt_endpoint.specs.Writing.{spoken, carried, framed, tunneled}
 use Rattle.mt_endpoint.specs.World.{IsStep, HasCome, begins, is_begun, heard_in, drawn_in, hears, draws}
 use Rattle.mt_endpoint.specs.Alone.{IsAct}
-use Rattle.mt_endpoint.proofs.Walking.{Place, left_more}
+use Rattle.mt_endpoint.proofs.Together.{Place, left_more}
 use Rattle.end_calls.specs.declared.fault.Fault.{Fault}
 use Rattle.end_calls.specs.declared.fault.Fault.TheVariants as fault
 use Rattle.end_calls.specs.Streams.{Past, is_broken, grows}

@@ -18,8 +18,7 @@ use Rattle.mt_endpoint.specs.Acts.{Act}
 use Rattle.mt_endpoint.specs.Tunnels.{is_attached}
 use Rattle.mt_endpoint.specs.Writing.{spoken, carried, framed, tunneled}
 use Rattle.mt_endpoint.specs.World.{hears, draws}
-use Rattle.mt_endpoint.proofs.Walking.{Place}
-use Rattle.mt_endpoint.proofs.Together.{turned, safe_at}
+use Rattle.mt_endpoint.proofs.Together.{Place, turned, safe_at}
 use Rattle.end_calls.specs.declared.fault.Fault.{Fault}
 use Rattle.end_calls.specs.declared.fault.Fault.TheVariants as fault
 use Rattle.end_calls.specs.Streams.{Past}

@@ -31,7 +31,7 @@ pub meet_at : (role : Role) (here there : Trace Act) → Place role here there �
 meet_at role here there p = record { here_acts = p.here_acts; there_acts = p.there_acts; to_here = p.came.main; to_there = p.left.main }
 
 -- what this end leaves only grows
-left_more : (role : Role) (here there : Trace Act) (act : Act) → HasLeft role here there → HasLeft role (here ▷ act) there
+pub left_more : (role : Role) (here there : Trace Act) (act : Act) → HasLeft role here there → HasLeft role (here ▷ act) there
 left_more role here there act h = record {
   main = front-trans (hears there) (spoken role here) (spoken role (here ▷ act)) h.main (front-append (spoken role here) (on_main (adds role here act)));
   reliable = front-trans (draws Reliable there) (carried Reliable role here) (carried Reliable role (here ▷ act)) h.reliable (front-append (carried Reliable role here) (into Reliable (is_silent Reliable here) (adds role here act)));
