@@ -1,5 +1,5 @@
 -- The law of an end's calls.
-use Rattle.std.specs.Prelude.{◌≡◌, ℕ, ◌+◌, ◌^◌, ◌<◌, ◌≤◌, Bool, true, false, not, List, [], ◌++◌, length, take, drop, All, Option, Some, None}
+use Rattle.std.specs.Prelude.{◌≡◌, ℕ, ◌+◌, ◌^◌, ◌<◌, ◌≤◌, Bool, true, false, not, List, [], ◌++◌, length, take, drop, All, is_some, Option, Some, None}
 use Rattle.mt_base.specs.declared.kinds.Kind.{Kind}
 use Rattle.mt_base.specs.declared.kinds.Kind.TheVariants.{Reliable, Lossy}
 use Rattle.mt_base.specs.declared.kinds.Role.{Role}
@@ -7,7 +7,8 @@ use Rattle.mt_base.specs.Trace.{Trace, Start, ◌▷◌}
 use Rattle.carrier.specs.declared.state.Took.{Took}
 use Rattle.carrier.specs.declared.state.Took.TheVariants.{Ignored}
 use Rattle.carrier.specs.declared.state.Reason.TheVariants as reason
-use Rattle.mt_endpoint.specs.Acts.{Act, Began, Opens, Sends, Takes, Asks, Attaches, Refuses, Syncs, Closes, Hears, Releases}
+use Rattle.mt_endpoint.specs.Acts.{Act, Began, Opens, Sends, Takes, Asks, Attaches, Refuses, Syncs, Closes, Hears, Releases, Spoken}
+use Rattle.mt_endpoint.specs.Said.{Said, Capable, Creates, Created, Brings, Ends, Moves, Moved, said}
 use Rattle.mt_endpoint.specs.Holding.{held, weight}
 use Rattle.mt_endpoint.specs.Tunnels.{is_attached}
 use Rattle.mt_endpoint.specs.World.{IsStep, begins, is_begun}
@@ -56,10 +57,20 @@ pub data IsFront : Trace Act → Trace Act → Type 0 where
   whole : (t : Trace Act) → IsFront t t
   shorter : (t u : Trace Act) (act : Act) → IsFront t u → IsFront t (u ▷ act)
 
--- acts that take memory: a frame that brings data or creates a channel, and a release
+-- a frame that takes memory brings data, or creates a channel
+abbrev pub is_for_memory : Said → Bool
+is_for_memory (Capable version) = false
+is_for_memory (Creates id name) = true
+is_for_memory (Created id status) = false
+is_for_memory (Brings id) = true
+is_for_memory (Ends id) = false
+is_for_memory (Moves lists) = false
+is_for_memory (Moved kinds) = false
+
+-- acts that take memory: such a frame, and the release of data
 abbrev pub takes_memory : Act → Bool
-takes_memory (Hears heard) = true
-takes_memory (Releases kind at bytes pdu) = true
+takes_memory (Hears (Spoken pdu)) = is_for_memory (said pdu)
+takes_memory (Releases kind at bytes pdu) = is_for_memory (said pdu)
 takes_memory act = false
 
 -- between these two pasts the acts came only so far: the next one takes memory
@@ -134,18 +145,14 @@ abbrev pub Hands : Role → Outset → Past → List (List ℕ) → Trace Handed
 Hands role outset p left parts true = AreHanded role outset p left parts
 Hands role outset p left parts false = AreHanded role outset p left parts × AreAll role outset p left parts
 
-abbrev pub is_some_lack : {A : Type 0} → Option A → Bool
-is_some_lack None = false
-is_some_lack (Some x) = true
-
 -- memory was wanting at a pull, or at a part
 abbrev pub lacks_pull : Trace Handed → Option (Trace Act) → Bool
-lacks_pull Start lack = is_some_lack lack
+lacks_pull Start lack = is_some lack
 lacks_pull (parts ▷ part) lack = false
 
 abbrev pub lacks_part : Trace Handed → Option (Trace Act) → Bool
-lacks_part Start lack = is_some_lack lack
-lacks_part (parts ▷ part) lack = is_some_lack lack
+lacks_part Start lack = is_some lack
+lacks_part (parts ▷ part) lack = is_some lack
 
 -- a datagram for a link that is there, or that isn't
 pub record TakesIn (role : Role) (t : Trace Entry) (kind : Kind) (load : ℕ) (came : Came) (pulls : Trace Pull) (parts : Trace Handed) (lack : Option (Trace Act)) : Type 0 where

@@ -1,7 +1,7 @@
 -- The calls that an end makes of its links. What a frame, a PDU or a step writes into a tunnel is given
 -- to its link by one call, as soon as it is read or made; but a message goes in PDU by PDU. A lossy link
 -- has each PDU posted by itself.
-use Rattle.std.specs.Prelude.{ℕ, Bool, not, ◌&&◌, ◌||◌, List, [], ◌∷◌, take, option_map, Option, Some, None, if◌then◌else◌}
+use Rattle.std.specs.Prelude.{ℕ, Bool, not, ◌&&◌, ◌||◌, List, [], ◌∷◌, take, is_some, option_map, Option, Some, None, if◌then◌else◌}
 use Rattle.std.specs.List.{fold, flat_map}
 use Rattle.mt_base.specs.declared.kinds.Kind.{Kind}
 use Rattle.mt_base.specs.declared.kinds.Kind.TheVariants.{Reliable, Lossy}
@@ -15,7 +15,7 @@ use Rattle.mt_endpoint.specs.Writing.{tunneled}
 use Rattle.end_calls.specs.Streams.{Past, with_main, written}
 use Rattle.end_calls.specs.Calls.{Entry, Own, MainIn, MainOut, WireIn, WireOut, Pull, Handed, lacking, after_pulls, after_parts, read_count, before_poll, if_steps, story, past, acts}
 use Rattle.end_calls.specs.Stops.{Outset, is_link_stopped}
-use Rattle.end_calls.specs.Law.{outset, is_some_lack as is_lacking}
+use Rattle.end_calls.specs.Law.{outset}
 use Rattle.carrier.specs.declared.state.Took.{Took}
 
 -- one PDU into a link
@@ -85,7 +85,7 @@ takes_in kind made now datagram took t = if same_kind kind made then t ▷ In no
 abbrev pub reads_in : Kind → Role → Outset → Trace Pull → Trace Handed → Option (Trace Act) → Trace link.Entry → Trace link.Entry
 reads_in kind role outset pulls parts lack t =
     let p = after_pulls role outset.before pulls in
-    asks_once_more kind (is_attached Lossy p.acts && not (is_lacking lack || is_link_stopped role outset (after_parts role p parts)))
+    asks_once_more kind (is_attached Lossy p.acts && not (is_some lack || is_link_stopped role outset (after_parts role p parts)))
     (by_parts kind role p parts lack (by_pulls kind role outset.before pulls (of_pulls parts lack) t))
 
 -- what a poll adds: what is posted before it, and the poll of its own link

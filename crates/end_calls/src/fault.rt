@@ -14,8 +14,10 @@ pub enum Place {
     Reliable { at: u64 },
 }
 
-/// Why an end is broken, for good. The causes of one PDU are looked at in this order, but for want of
-/// memory, which comes where nothing else does.
+/// Why an end is broken, for good. Of one frame or PDU, `Stream` is looked at first and then `Pdu`; then
+/// whether it comes there (`Unexpected`, `BadSyncAnswer`, `SyncUnknown`), whether its channel is there
+/// (`Channel`), whether it comes too late (`TooLateOnMain`), and whether its channel takes it
+/// (`Channel`). Want of memory comes where nothing else does.
 #[derive(Clone, Copy, Debug, PartialEq, Eq)]
 pub enum Fault {
     /// There was no memory for what came.

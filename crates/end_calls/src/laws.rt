@@ -11,7 +11,6 @@ ghost use Rattle.mt_endpoint.specs.Tunnels.{link_of};
 ghost use Rattle.end_calls.specs.Streams.{Past, with_tunnel, verdict_by};
 ghost use Rattle.end_calls.specs.Calls.{Entry, after_bytes};
 ghost use Rattle.end_calls.specs.Example.{Shows};
-ghost use Rattle.end_calls.specs.Law.{EndTrace, IsWithin};
 ghost use Rattle.end_calls.specs.Net.{Net, Safe};
 ghost use Rattle.end_calls.specs.Session.{capable, Shown};
 
@@ -36,17 +35,13 @@ pub fn verdicts_are_of_the_table()
         → IsVerdict (link_of kind) kind cookie entry (verdict_by kind cookie entry) }
 {}
 
-/// What waits on the main stream, and what is held of each tunnel, keeps its limits.
-pub fn queues_keep_their_limits()
-    ensures { (role : Role) (t : Trace Entry) → EndTrace role t → IsWithin role t }
-{}
-
 /// Two ends of a session, call by call, with their bytes. Each keeps the law of its calls, and what it
 /// took left the other: the front of the main stream, the front of what the reliable link was given, and
 /// some of the parts that were posted on the lossy one, in order. Then what is delivered on a channel was
 /// sent on it, as `mt_endpoint::delivered_was_sent` says, in both directions and at each place of the
-/// list; what waits and what is held keeps its limits; and neither end has a fault but want of memory.
-/// How the streams are cut into calls, and where memory is wanting, makes no difference to that.
+/// list; and neither end has a fault but want of memory. How the streams are cut into calls, and where
+/// memory is wanting, makes no difference to that. The limits of what waits and of what is held are
+/// those that the law of an end's calls asks for.
 pub fn two_ends_in_bytes()
     ensures { (w : Trace (Role × Entry)) → Net w → Safe w }
 {}

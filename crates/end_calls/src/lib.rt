@@ -14,8 +14,8 @@ mod refusal;
 pub use counters::Counters;
 pub use fault::{Fault, Place};
 pub use laws::{
-    a_client_in_bytes, cuts_do_not_matter, queues_keep_their_limits, two_ends_by_hand,
-    two_ends_in_bytes, verdicts_are_of_the_table,
+    a_client_in_bytes, cuts_do_not_matter, two_ends_by_hand, two_ends_in_bytes,
+    verdicts_are_of_the_table,
 };
 pub use limits::{
     ANSWER, CONTROL, HELD_PDU, HOLD, INBOX, LOSSY_MESSAGE, MAIN_QUEUE, MESSAGE, RESERVE,

@@ -4,13 +4,15 @@
 //!
 //! Below it stand `end_calls` and `mt_endpoint`, whose definitions the parts follow: a [`MainQueue`] is
 //! the list of the bytes in it, a [`Stream`] is the value under way, and a [`Tunnel`] is what acts have
-//! told of it, by which it is asked for, open, refused or silent.
+//! told of it, by which it is asked for, open, refused or silent ([`a_tunnel_is_what_acts_made`]).
 #![tactic(auto)]
 
+mod laws;
 mod queue;
 mod stream;
 mod tunnel;
 
+pub use laws::a_tunnel_is_what_acts_made;
 pub use queue::MainQueue;
 pub use stream::Stream;
 pub use tunnel::{Asked, Tunnel, TunnelState};
