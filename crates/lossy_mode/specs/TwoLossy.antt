@@ -32,7 +32,7 @@ got_from settings w s = got (settings (other s)) (half (other s) w)
 
 -- The parts that the other end accepted are some of the first ones that this end sent, each at most once
 -- and in their order, with their bytes. The number that it expects next has the same low part as the one
--- behind the last of them; it is the same number where fewer than half the modulus were lost in a row.
+-- behind the last of them.
 pub record Picked (settings : Role → OpenSettings) (w : Trace Step) (s : Role) : Type 0 where
   pub reach : ℕ
   pub reached : reach ≤ sent (half s w)
