@@ -1,5 +1,7 @@
 ghost use Rattle.std.specs.Prelude.{◌<◌, ◌^◌};
 
+mod stories;
+
 use super::*;
 use carrier::{LinkState, Post, PostRefusal, Reason, Took};
 use mt_base::{Kind, NoMemory, Role};
@@ -31,7 +33,7 @@ const CORRECTION: [u8; 21] = [
     0, 0, 0, 1, 0x00, 0x40, 0x00, 0x18, 0, 0, 0, 13, 0, 0, 0, 13, 1, 0, 0, 0, 0x41,
 ];
 
-fn link(alloc: Global, role: Role, initial: u32) -> Result<LossyCore, NoMemory> {
+fn new_link(alloc: Global, role: Role, initial: u32) -> Result<LossyCore, NoMemory> {
     LossyCore::new(
         alloc,
         &OpenSettings {
@@ -92,7 +94,7 @@ fn hands_out(link: &mut LossyCore) -> Option<u8> {
 
 /// Opens the link by a datagram of the other end.
 fn opened(alloc: Global, role: Role, initial: u32, by: &[u8]) -> Result<LossyCore, NoMemory> {
-    let mut link = link(alloc, role, initial)?;
+    let mut link = new_link(alloc, role, initial)?;
     let _ = takes(&mut link, 0, &filled(by));
     let _ = is_silent(&mut link, 0);
     Ok(link)
@@ -122,7 +124,7 @@ fn corrections_are_dropped(rt: HostRuntime) -> Result<(), NoMemory> {
 
 #[test]
 fn a_window_of_parts_waits_to_be_sent(rt: HostRuntime) -> Result<(), NoMemory> {
-    let mut client = link(rt.alloc(), Role::Client, 1)?;
+    let mut client = new_link(rt.alloc(), Role::Client, 1)?;
     for _part in 0..64 {
         assert_eq!(rt; posts(&mut client, 0x41), Ok(()));
     }
@@ -134,11 +136,14 @@ fn a_window_of_parts_waits_to_be_sent(rt: HostRuntime) -> Result<(), NoMemory> {
 
 #[test]
 fn a_syn_that_is_never_answered_closes(rt: HostRuntime) -> Result<(), NoMemory> {
-    let mut client = link(rt.alloc(), Role::Client, 1)?;
+    let mut client = new_link(rt.alloc(), Role::Client, 1)?;
     assert_eq!(rt; client.next_due(), Some(0));
-    for expiry in 0..18 {
+    for expiry in 0..17 {
         let _ = is_silent(&mut client, 8_000 * expiry);
     }
+    assert_eq!(rt; client.state(), LinkState::Opening);
+    assert_eq!(rt; client.next_due(), Some(136_000));
+    assert!(rt; is_silent(&mut client, 136_000));
     let closed = Err(PostRefusal::Closed { expiries: 17 });
     assert_eq!(rt; posts(&mut client, 0x41), closed);
     assert_eq!(rt; client.state(), LinkState::Closed { expiries: 17 });
