@@ -30,7 +30,8 @@ use Rattle.udp_open.specs.TwoLinks.{AgreesIn}
 use Rattle.udp_open.proofs.Agreeing.{agrees}
 use Rattle.udp_open.proofs.links.Flag.{machine_plain, opening_flag}
 use Rattle.lossy_mode.specs.Thin.{Got, Thin, first_due, got, got_by, plain, read_open, sent, sent_by, waiting_in, with_part, with_load, with_reading}
-use Rattle.lossy_mode.specs.TwoLossy.{HandedPicked, LossyNet, Picked, got_from}
+use Rattle.lossy_mode.specs.TwoLossy.{HandedPicked, KindIn, LossyNet, Picked, got_from}
+use Rattle.lossy_mode.proofs.SameKind.{one_kind}
 use Rattle.lossy_mode.proofs.OneWay.{Flies, IsAt, Keeps, flies_on, load_in, reading_comes}
 use Rattle.lossy_mode.proofs.TwoWays.{AllFly, Moves, sender_flies, sender_keeps}
 
@@ -100,6 +101,9 @@ agrees_in late settings w h s = by (agreed (settings s) (half s w)) refl
     by : (a : Option Agreement) → agreed (settings s) (half s w) ≡ a → IfSome a (AgreesWith settings s)
     by None is = tt
     by (Some a) is = agrees_with late settings w s a h is
+
+pub kind_in : (late : ℕ) (settings : Role → OpenSettings) (w : Trace Step) → LossyNet late settings w → (s : Role) → KindIn settings w s
+kind_in late settings w h s is = one_kind settings (h.versions Client) w (meet late settings w h) s is ∙ h.kind
 
 -- ---- the receiver moves
 
@@ -198,7 +202,7 @@ thin_before settings w Client e h Client = (h Client).1
 net_before : (late : ℕ) (settings : Role → OpenSettings) (w : Trace Step) (side : Role) (e : Entry) → LossyNet late settings (w ▷ At side e) → LossyNet late settings w
 net_before late settings w side e h = record {
   roles = h.roles;
-  kinds = h.kinds;
+  kind = h.kind;
   versions = h.versions;
   initials = h.initials;
   in_time = h.in_time;

@@ -9,3 +9,4 @@ mod OneWay
 mod TwoWays
 mod JoinedLossy
 mod OneLossy
+mod SameKind

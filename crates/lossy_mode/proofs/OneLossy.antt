@@ -2,7 +2,6 @@
 use Rattle.std.proofs.Common.{◌≡◌, inl, inr, ◌<◌, ◌^◌, [], ◌∷◌, All, refl, lit<, lit≤}
 use Rattle.std.proofs.lemmas.List.Elements.{All-cons, All-nil}
 use Rattle.mt_base.specs.Nearness.{nearest}
-use Rattle.mt_base.specs.declared.kinds.Kind.TheVariants.{Lossy}
 use Rattle.mt_base.specs.declared.kinds.Role.{Role}
 use Rattle.mt_base.specs.declared.kinds.Role.TheVariants.{Server, Client}
 use Rattle.carrier.specs.Joined.{half, Timely}
@@ -26,7 +25,7 @@ one_timely = (λ _. (0, lit< tt, (refl, refl)), (λ _. (1, lit< tt, (refl, refl)
 pub one_net : LossyNet 1024 lossy_settings one_lossy
 one_net = record {
   roles = roles;
-  kinds = kinds;
+  kind = refl;
   versions = versions;
   initials = initials;
   in_time = lit≤ tt;
@@ -37,10 +36,6 @@ one_net = record {
     roles : (s : Role) → (lossy_settings s).role ≡ s
     roles Server = refl
     roles Client = refl
-
-    kinds : (s : Role) → (lossy_settings s).kind ≡ Lossy
-    kinds Server = refl
-    kinds Client = refl
 
     versions : (s : Role) → IsFirst (lossy_settings s).version
     versions Server = inl refl
