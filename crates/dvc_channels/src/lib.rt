@@ -22,8 +22,3 @@ pub use laws::{
 };
 pub use message::Message;
 pub use splitting::{fragment_of, fragments};
-
-#[cfg(test)]
-mod splitting_tests;
-#[cfg(test)]
-mod tests;

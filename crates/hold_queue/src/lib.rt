@@ -12,6 +12,3 @@ mod record;
 mod rings;
 
 pub use hold::Hold;
-
-#[cfg(test)]
-mod tests;

@@ -16,6 +16,3 @@ mod row;
 pub use kinds::{Kinds, Path, Placed, SyncRefusal};
 pub use laws::{a_session, answers_come_in_order, ends_agree};
 pub use paths::Paths;
-
-#[cfg(test)]
-mod tests;

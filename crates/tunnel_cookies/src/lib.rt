@@ -12,6 +12,3 @@ mod laws;
 pub use entry::{Entry, IssueRefusal, Verdict};
 pub use issued::Issued;
 pub use laws::{one_link, one_verdict};
-
-#[cfg(test)]
-mod tests;

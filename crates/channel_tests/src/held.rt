@@ -1,4 +1,4 @@
-use super::*;
+use hold_queue::Hold;
 use std::test::*;
 
 #[test]

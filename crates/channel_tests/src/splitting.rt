@@ -1,6 +1,6 @@
 //! Tests of the PDUs that messages are cut into.
 
-use super::*;
+use dvc_channels::{fragment_of, fragments, fragments_are_fewest, fragments_make_messages};
 use std::test::*;
 
 #[test]

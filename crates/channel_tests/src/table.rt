@@ -1,6 +1,6 @@
 //! Tests of channels: each public call, and each refusal.
 
-use super::*;
+use dvc_channels::{Accepted, ChannelRefusal, ChannelState, Channels, CreateRefusal};
 use dvc_pdus::DvcPdu;
 use std::alloc::Global;
 use std::process::Abort;

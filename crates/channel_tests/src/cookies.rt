@@ -1,7 +1,7 @@
-use super::*;
 use mt_base::Kind;
 use sha2::{Digest, Sha256};
 use std::test::*;
+use tunnel_cookies::{IssueRefusal, Issued, Verdict, one_link};
 
 const COOKIE: [u8; 16] = [0, 1, 2, 3, 4, 5, 6, 7, 8, 9, 10, 11, 12, 13, 14, 15];
 

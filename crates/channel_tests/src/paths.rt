@@ -1,5 +1,5 @@
-use super::*;
 use mt_base::Kind;
+use soft_sync::{Path, Paths, Placed};
 use std::test::*;
 
 const RELIABLE: Path = Path::Tunnel(Kind::Reliable);
