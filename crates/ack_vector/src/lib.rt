@@ -15,6 +15,3 @@ pub use laws::{flags_of_runs, longest_stretches, numbers_told, written_spells};
 pub use lookup::told;
 pub use reader::{Run, Runs, read_runs};
 pub use writer::{RunWriter, write_runs};
-
-#[cfg(test)]
-mod tests;

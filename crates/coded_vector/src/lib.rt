@@ -19,6 +19,3 @@ pub use laws::{chosen_pieces, few_flags, numbers_told, written_spells};
 pub use lookup::told_coded;
 pub use reader::read_coded;
 pub use writer::{CodedWriter, write_coded};
-
-#[cfg(test)]
-mod tests;

@@ -23,8 +23,3 @@ pub use moves::write_sync;
 pub use pdu::{DvcPdu, DvcRefusal};
 pub use read::read_dvc;
 pub use write::write_dvc;
-
-#[cfg(test)]
-mod sync_tests;
-#[cfg(test)]
-mod tests;

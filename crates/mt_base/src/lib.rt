@@ -35,6 +35,3 @@ pub use place::Place;
 pub use room::Room;
 pub use spell::{Spell, write};
 pub use width::{W16, W32, Width, near};
-
-#[cfg(test)]
-mod tests;

@@ -26,6 +26,3 @@ pub use part::{Part, TunnelReason, TunnelRefusal};
 pub use tunnel::read_tunnel;
 pub use value::{MainFrame, TunnelPdu};
 pub use write::{write_frame, write_tunnel};
-
-#[cfg(test)]
-mod tests;

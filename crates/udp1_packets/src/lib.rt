@@ -20,6 +20,3 @@ pub use laws::{one_meaning, opening_byte, written_is_read};
 pub use packet::{Body1, Extension, Packet1, Syn1};
 pub use read::read1;
 pub use write::write1;
-
-#[cfg(test)]
-mod tests;

@@ -23,6 +23,3 @@ pub use laws::{one_meaning, reading_by_layout, separation, written_is_read};
 pub use packet::{Ack2, Body2, DelayInfo, Packet2, Stamp2, Telling2, Vector2};
 pub use read::read2;
 pub use write::{write_fields2, write2};
-
-#[cfg(test)]
-mod tests;

@@ -1,6 +1,9 @@
-use super::*;
 use mt_base::{NoRoom, Short};
 use std::test::*;
+use udp1_packets::{
+    Body1, Extension, Packet1, Refusal1, Syn1, one_meaning, opening_byte, read1, write1,
+    written_is_read,
+};
 
 /// These bytes, and zeros behind them.
 fn filled<const N: usize>(front: &[u8]) -> [u8; N] {

@@ -1,9 +1,12 @@
 ghost use Rattle.tunnel_pdus.specs.Value.{FitsPdu, FitsFrame};
 ghost use Rattle.tunnel_pdus.specs.Views.{pdu_of, frame_of};
 
-use super::*;
 use mt_base::{Kind, NoRoom};
 use std::test::*;
+use tunnel_pdus::{
+    MainFrame, Part, TunnelPdu, TunnelReason, TunnelRefusal, frame_stream, read_frame, read_tunnel,
+    tunnel_meaning, write_frame, write_tunnel,
+};
 
 const COOKIE: [u8; 16] = [0, 1, 2, 3, 4, 5, 6, 7, 8, 9, 10, 11, 12, 13, 14, 15];
 

@@ -1,4 +1,7 @@
-use super::*;
+use coded_vector::{
+    CodedWriter, chosen_pieces, few_flags, numbers_told, read_coded, told_coded, write_coded,
+    written_spells,
+};
 use mt_base::Out;
 use std::test::*;
 

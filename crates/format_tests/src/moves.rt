@@ -1,4 +1,4 @@
-use super::*;
+use dvc_pdus::{DvcPdu, DvcRefusal, SyncLists, read_dvc, write_sync};
 use mt_base::{Kind, NoRoom, Role, Short};
 use std::test::*;
 

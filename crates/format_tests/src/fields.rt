@@ -1,4 +1,7 @@
-use super::*;
+use mt_base::{
+    Cursor, Kind, NoMemory, NoRoom, Out, Place, Role, Room, Short, Spell, W16, W32, filling, near,
+    nearness, stretch, write,
+};
 use std::test::*;
 
 #[test]

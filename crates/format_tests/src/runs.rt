@@ -1,4 +1,7 @@
-use super::*;
+use ack_vector::{
+    RunWriter, flags_of_runs, longest_stretches, numbers_told, read_runs, told, write_runs,
+    written_spells,
+};
 use mt_base::Out;
 use std::test::*;
 

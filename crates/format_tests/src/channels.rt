@@ -1,4 +1,4 @@
-use super::*;
+use dvc_pdus::{DvcPdu, DvcRefusal, one_meaning, read_dvc, write_dvc, written_is_read};
 use mt_base::{NoRoom, Role, Short};
 use std::test::*;
 

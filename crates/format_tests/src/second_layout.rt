@@ -2,9 +2,12 @@ ghost use Rattle.std.specs.Prelude.{◌≤◌, length};
 ghost use Rattle.udp2_packets.specs.Layout.{IsPacket};
 ghost use Rattle.udp2_packets.specs.Views.{packet_of};
 
-use super::*;
 use mt_base::{NoRoom, Short};
 use std::test::*;
+use udp2_packets::{
+    Ack2, Body2, DelayInfo, Packet2, Refusal2, Stamp2, Telling2, Vector2, finish2, one_meaning,
+    read2, reading_by_layout, separation, write_fields2, write2, written_is_read,
+};
 
 /// The fault of the datagram that is this packet, with its prefix byte first, if any.
 fn fault(packet: &[u8]) -> Option<Refusal2>
