@@ -23,6 +23,3 @@ pub use laws::{cut_into_lines, events_read, one_answer, one_meaning, one_spellin
 pub use script::{LINE_LIMIT, Script, count_lines, read_script};
 pub use text::Text;
 pub use values::hex_bytes;
-
-#[cfg(test)]
-mod tests;

@@ -1,5 +1,8 @@
-use super::*;
 use mt_base::Role;
+use mt_script::{
+    Event, ScriptRefusal, Text, count_lines, cut_into_lines, cut_line, events_read, hex_bytes,
+    one_answer, one_meaning, one_spelling, read_script,
+};
 use std::test::*;
 
 #[test]
