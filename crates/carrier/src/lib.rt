@@ -46,6 +46,3 @@ pub use state::{LinkState, Reason, Took};
 pub use two_links::{
     a_small_world, a_small_world_of_transmissions, joined_links, sixteen_bits_are_enough,
 };
-
-#[cfg(test)]
-mod tests;

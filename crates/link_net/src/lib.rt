@@ -23,6 +23,3 @@ pub use pair::Pair;
 pub use step::{Step, Turn, carries, filled, is_silent, play, play_both, sends, sent_length};
 pub use story::{ALL_LOST, ALL_TWICE, Ending, MIXED_UP, Story, THIRD_LOST, UNRULY, stories};
 pub use way::{Fate, Way, earlier};
-
-#[cfg(test)]
-mod tests;

@@ -1,5 +1,5 @@
-use super::*;
 use carrier::{LinkState, PerfectCarrier, Reason, Refusal1};
+use link_net::{Fate, Step, Way, play, stories};
 use mt_base::Short;
 use std::test::*;
 

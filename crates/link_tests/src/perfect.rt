@@ -1,7 +1,12 @@
 ghost use Rattle.std.specs.Prelude.{◌≡◌, ◌<◌, ◌≤◌, ◌^◌, [], length};
 ghost use Rattle.mt_base.specs.Trace.{Start};
 
-use super::*;
+use carrier::{
+    Carrier, GiveRefusal, LinkState, PerfectCarrier, PerfectPost, Post, PostRefusal, Reason,
+    Refusal1, Refusal2, Took, a_small_world, a_small_world_of_transmissions, faithful_links,
+    joined_links, links_close, perfect_bytes_arrive, perfect_bytes_in_order, perfect_parts_arrive,
+    perfect_parts_in_order, sixteen_bits_are_enough,
+};
 use mt_base::Short;
 use std::test::*;
 
