@@ -5,23 +5,31 @@ use mt_base::{
 use std::test::*;
 
 #[test]
-fn reads_each_field(rt: HostRuntime) -> Result<(), Fail> {
-    let bytes = [
-        0x01, 0x02, 0x03, 0x04, 0x05, 0x06, 0x07, 0x08, 0x09, 0x0a, 0x0b, 0x0c, 0x0d, 0x0e, 0x0f,
-        0x10, 0x11, 0x12,
-    ];
-    let mut from = Cursor::new(&bytes);
+fn reads_numbers_from_the_highest_byte_on(rt: HostRuntime) -> Result<(), Fail> {
+    let mut from = Cursor::new(&[0x01, 0x02, 0x03, 0x04, 0x05, 0x06, 0x07, 0x08]);
     assert_eq!(rt; from.u8()?, 0x01);
     assert_eq!(rt; from.u16_be()?, 0x0203);
     assert_eq!(rt; from.u32_be()?, 0x0405_0607);
+    assert_eq!(rt; from.at(), 7);
+    Ok(())
+}
+
+#[test]
+fn reads_numbers_from_the_lowest_byte_on(rt: HostRuntime) -> Result<(), Fail> {
+    let mut from = Cursor::new(&[0x08, 0x09, 0x0a, 0x0b, 0x0c, 0x0d, 0x0e, 0x0f, 0x10]);
     assert_eq!(rt; from.u16_le()?, 0x0908);
     assert_eq!(rt; from.u24_le()?, 0x000c_0b0a);
     assert_eq!(rt; from.u32_le()?, 0x100f_0e0d);
-    assert_eq!(rt; from.at(), 16);
-    assert_eq!(rt; from.take(3), Err(Short { at: 16, need: 3 }));
+    Ok(())
+}
+
+#[test]
+fn reads_bytes_where_there_are_enough(rt: HostRuntime) -> Result<(), Fail> {
+    let mut from = Cursor::new(&[0x11, 0x12]);
+    assert_eq!(rt; from.take(3), Err(Short { at: 0, need: 3 }));
     assert_eq!(rt; from.rest(), [0x11, 0x12].as_slice());
     assert_eq!(rt; from.take(2)?, [0x11, 0x12].as_slice());
-    assert_eq!(rt; from.u8(), Err(Short { at: 18, need: 1 }));
+    assert_eq!(rt; from.u8(), Err(Short { at: 2, need: 1 }));
     Ok(())
 }
 
