@@ -44,6 +44,20 @@ impl Issued {
         })
     }
 
+    /// Why an id gets no entry. Known is looked at before TooMany.
+    pub fn refusal(&self, id: u32) -> Option<IssueRefusal>
+        ensures refused { IfSome result (λ why. WhyNot id self.now why) }
+        ensures allowed { IfNone result ((entry_of id self.now ≡ None) × (length self.now < 16)) }
+    {
+        if self.entries.get(&id).is_some() {
+            return Some(IssueRefusal::Known);
+        }
+        if self.entries.len() >= LIMIT {
+            return Some(IssueRefusal::TooMany { limit: LIMIT });
+        }
+        None
+    }
+
     /// Adds an entry for an id that has none. Known is looked at before TooMany.
     pub fn issue(&mut self, id: u32, kind: Kind, cookie: &[u8; 16]) -> Result<(), IssueRefusal>
         ensures issued { OnOk result (self.new ≡ self.old ++ (id, unspent kind cookie.now) ∷ []) }
@@ -51,11 +65,8 @@ impl Issued {
         ensures refused { IfErr result (λ why. WhyNot id self.old why) }
         ensures unchanged { OnErr result (self.new ≡ self.old) }
     {
-        if self.entries.get(&id).is_some() {
-            return Err(IssueRefusal::Known);
-        }
-        if self.entries.len() >= LIMIT {
-            return Err(IssueRefusal::TooMany { limit: LIMIT });
+        if let Some(why) = self.refusal(id) {
+            return Err(why);
         }
         let entry = Entry {
             kind,
