@@ -1,18 +1,18 @@
-mod Examples
-mod Playing
-mod Verdicts
-mod Within
-mod Each
-mod Spelled
-mod Fitting
-mod Writes
-mod Fronts
-mod Reading
-mod Back
-mod Standing
-mod Running
-mod Stepping
-mod Onward
-mod Given
-mod Taken
-mod TwoEnds
+pub mod Examples
+pub mod Playing
+pub mod Verdicts
+pub mod Within
+pub mod Each
+pub mod Spelled
+pub mod Fitting
+pub mod Writes
+pub mod Fronts
+pub mod Reading
+pub mod Back
+pub mod Standing
+pub mod Running
+pub mod Stepping
+pub mod Onward
+pub mod Given
+pub mod Taken
+pub mod TwoEnds

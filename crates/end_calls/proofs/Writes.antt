@@ -38,26 +38,26 @@ use Rattle.end_calls.proofs.Fitting.{AreFields, FitsRequest, FitsHeard, FitsDraw
 
 -- ---- each PDU
 
-caps_fit : IsPdu Server (Caps 3 (Some (0 ∷ 0 ∷ 0 ∷ 0 ∷ [])))
+pub caps_fit : IsPdu Server (Caps 3 (Some (0 ∷ 0 ∷ 0 ∷ 0 ∷ [])))
 caps_fit = ((omega arith, refl, All-replicate (λ c. c < 2 ^ 16) 4 0 (omega arith)), omega arith)
 
-caps_again : IsPdu Client (Caps 3 None)
+pub caps_again : IsPdu Client (Caps 3 None)
 caps_again = (omega arith, omega arith)
 
-creates_fit : (id : ℕ) (name : List ℕ) → id ≤ 256 → IsName name → IsPdu Server (CreateRequest id 0 name)
+pub creates_fit : (id : ℕ) (name : List ℕ) → id ≤ 256 → IsName name → IsPdu Server (CreateRequest id 0 name)
 creates_fit id name few is =
     let long = is.1 in
     ((omega (arith, few), omega arith, is), omega (arith, length-append (smallest id) (name ++ (0 ∷ [])), length-append name (0 ∷ []), sizes id, long))
 
-created_fits : (id status : ℕ) → id < 2 ^ 32 → status < 2 ^ 32 → IsPdu Client (CreateResponse id status)
+pub created_fits : (id status : ℕ) → id < 2 ^ 32 → status < 2 ^ 32 → IsPdu Client (CreateResponse id status)
 created_fits id status small fits =
     ((small, fits), omega (arith, length-append (smallest id) (bytes_low_first 0 4 status ++ []), sizes id))
 
-close_fits : (role : Role) (id : ℕ) → id < 2 ^ 32 → IsPdu role (Close id)
+pub close_fits : (role : Role) (id : ℕ) → id < 2 ^ 32 → IsPdu role (Close id)
 close_fits Server id small = (small, omega (arith, length-append (smallest id) [], sizes id))
 close_fits Client id small = (small, omega (arith, length-append (smallest id) [], sizes id))
 
-answer_fits : (role : Role) (b c : Bool) → IsPdu role (SyncResponse (cond b (Reliable ∷ []) [] ++ cond c (Lossy ∷ []) []))
+pub answer_fits : (role : Role) (b c : Bool) → IsPdu role (SyncResponse (cond b (Reliable ∷ []) [] ++ cond c (Lossy ∷ []) []))
 answer_fits Server true true = (omega arith, omega arith)
 answer_fits Server true false = (omega arith, omega arith)
 answer_fits Server false true = (omega arith, omega arith)
@@ -93,7 +93,7 @@ one_list kind ids few small = record { good = good (length ids == 0); few = less
   brief true = omega arith
   brief false = omega arith
 
-sync_fits : (reliable lossy : List ℕ) → length (reliable ++ lossy) ≤ 256 → Each (λ id. id < 2 ^ 32) reliable → Each (λ id. id < 2 ^ 32) lossy → IsPdu Server (sync_request reliable lossy)
+pub sync_fits : (reliable lossy : List ℕ) → length (reliable ++ lossy) ≤ 256 → Each (λ id. id < 2 ^ 32) reliable → Each (λ id. id < 2 ^ 32) lossy → IsPdu Server (sync_request reliable lossy)
 sync_fits reliable lossy few first second =
     let count = length-append reliable lossy in
     let r = one_list Reliable reliable (omega (arith, few, count)) first in
@@ -107,7 +107,7 @@ sync_fits reliable lossy few first second =
 
 -- ---- channels that are known
 
-known_small : (role : Role) (t : Trace Act) (id : ℕ) → EndOfActs role t → Each (FitsHeard role) (spoken role t) → is_known role id t ≡ true → id < 2 ^ 32
+pub known_small : (role : Role) (t : Trace Act) (id : ℕ) → EndOfActs role t → Each (FitsHeard role) (spoken role t) → is_known role id t ≡ true → id < 2 ^ 32
 known_small role t id e h k = ids_small role (spoken role t) id h (told_known role t id e k)
 
 may_small : (t : Trace Act) (ids : List ℕ) → EndOfActs Server t → Each (FitsHeard Server) (spoken Server t) → MayMove t ids → Each (λ id. id < 2 ^ 32) ids

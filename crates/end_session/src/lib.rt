@@ -8,12 +8,22 @@
 #![tactic(auto)]
 
 mod laws;
+mod opening;
+mod outgoing;
+mod outlet;
 mod queue;
+mod room;
+mod session;
+mod spelled;
 mod stream;
+mod taking;
 mod tunnel;
 
 pub use laws::a_tunnel_is_what_acts_made;
+pub use outgoing::Outgoing;
+pub use outlet::Outlet;
 pub use queue::MainQueue;
+pub use session::Session;
 pub use stream::Stream;
 pub use tunnel::{Asked, Tunnel, TunnelState};
 

@@ -39,7 +39,8 @@ impl MainQueue {
 
     /// How many bytes wait.
     pub fn len(&self) -> usize
-        ensures { result ≡ length self.now }
+        ensures count { result ≡ length self.now }
+        ensures bound { result ≤ MAIN_QUEUE }
     {
         self.ring.len()
     }
