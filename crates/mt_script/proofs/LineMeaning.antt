@@ -12,8 +12,10 @@ use Rattle.std.specs.Fmt.{decimal}
 use Rattle.hex.specs.Hex.{encode_lower}
 use Rattle.mt_base.specs.declared.kinds.Role.{Role}
 use Rattle.mt_base.specs.declared.kinds.Role.TheVariants.{Server, Client}
+use Rattle.mt_base.specs.declared.kinds.Kind.{Kind}
+use Rattle.mt_base.specs.declared.kinds.Kind.TheVariants.{Reliable, Lossy}
 use Rattle.mt_script.specs.Lines.{Lacks}
-use Rattle.mt_script.specs.Spelling.{side_name, hex_text, words_of, spelled, IsBytes, IsWord, IsEvent}
+use Rattle.mt_script.specs.Spelling.{side_name, kind_name, hex_text, words_of, spelled, IsBytes, IsWord, IsEvent}
 use Rattle.mt_script.specs.Meaning.{commands, first_word}
 use Rattle.mt_script.specs.declared.event.Event.{Event}
 use Rattle.mt_script.specs.declared.event.Event.TheVariants.{Open, Send, Main}
@@ -76,25 +78,29 @@ no_command line none listed =
 -- ---- the words of an event
 
 -- no word has a blank
-abbrev NoBlanks : List (List ℕ) → Type 0
+abbrev pub NoBlanks : List (List ℕ) → Type 0
 NoBlanks [] = Unit {0}
 NoBlanks (word ∷ words) = Lacks 32 word × NoBlanks words
 
 -- joined words are cut into the same words
-split_joined : (word : List ℕ) (words : List (List ℕ)) → NoBlanks (word ∷ words) → split_at_blanks (join_with_byte 32 (word ∷ words)) ≡ word ∷ words
+pub split_joined : (word : List ℕ) (words : List (List ℕ)) → NoBlanks (word ∷ words) → split_at_blanks (join_with_byte 32 (word ∷ words)) ≡ word ∷ words
 split_joined word [] h = slice_split_none (λ x. eqb x 32) word (none_passes 32 word h.0)
 split_joined word (next ∷ words) h =
     slice_split_at (λ x. eqb x 32) word 32 (join_with_byte 32 (next ∷ words)) (none_passes 32 word h.0) refl
     ∙ ap (λ ws. word ∷ ws) (split_joined next words h.1)
 
-tested : (word : List ℕ) → list_all (λ x. not (eqb x 32)) word ≡ true → Lacks 32 word
+pub tested : (word : List ℕ) → list_all (λ x. not (eqb x 32)) word ≡ true → Lacks 32 word
 tested word h = All-weaker (λ x. not (eqb x 32) ≡ true) (λ x. x ≢ 32) (λ x p e. let q = p in grind (arith, nat_tests)) word (AllPass-from_list_all (λ x. not (eqb x 32)) word h)
 
-side_no_blank : (side : Role) → Lacks 32 (side_name side)
+pub side_no_blank : (side : Role) → Lacks 32 (side_name side)
 side_no_blank Server = tested (side_name Server) refl
 side_no_blank Client = tested (side_name Client) refl
 
-decimal_no_blank : (id : ℕ) → id < 2 ^ 32 → Lacks 32 (decimal id)
+pub kind_no_blank : (kind : Kind) → Lacks 32 (kind_name kind)
+kind_no_blank Reliable = tested (kind_name Reliable) refl
+kind_no_blank Lossy = tested (kind_name Lossy) refl
+
+pub decimal_no_blank : (id : ℕ) → id < 2 ^ 64 → Lacks 32 (decimal id)
 decimal_no_blank id small k d within e =
     let digits = (decimal_is_IsNumeral id (omega arith)).0.1 in
     let range = digit_at (decimal id) k digits within in
@@ -104,7 +110,7 @@ decimal_no_blank id small k d within e =
 lower_no_blank : (x : ℕ) → is_lower_digit x ≡ true → x ≢ 32
 lower_no_blank x h e = grind (arith, nat_tests)
 
-hex_no_blank : (bytes : List ℕ) → IsBytes bytes → Lacks 32 (hex_text bytes)
+pub hex_no_blank : (bytes : List ℕ) → IsBytes bytes → Lacks 32 (hex_text bytes)
 hex_no_blank [] h = tested (codes "-") refl
 hex_no_blank (byte ∷ rest) h =
     All-weaker (λ x. is_lower_digit x ≡ true) (λ x. x ≢ 32) lower_no_blank (encode_lower (byte ∷ rest))
@@ -115,7 +121,7 @@ pub split_spelled : (event : Event) → IsEvent event → split_at_blanks (spell
 split_spelled (Open name) h = split_joined (codes "open") (name ∷ []) (tested (codes "open") refl, (h.0.no_blank, tt))
 split_spelled (Send side id message) h =
     split_joined (codes "send") (side_name side ∷ decimal id ∷ hex_text message ∷ [])
-    (tested (codes "send") refl, (side_no_blank side, (decimal_no_blank id h.0, (hex_no_blank message h.1, tt))))
+    (tested (codes "send") refl, (side_no_blank side, (decimal_no_blank id (omega (arith, h.0)), (hex_no_blank message h.1, tt))))
 split_spelled (Main side) h =
     split_joined (codes "main") (side_name side ∷ codes "all" ∷ []) (tested (codes "main") refl, (side_no_blank side, (tested (codes "all") refl, tt)))
 

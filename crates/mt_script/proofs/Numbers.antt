@@ -21,12 +21,13 @@ begins_first (first ∷ []) h = (grind (arith, nat_tests), grind (arith, nat_tes
 begins_first (first ∷ next ∷ rest) h = (grind (arith, nat_tests), grind (arith, nat_tests), λ e. let up : 49 ≤ first = grind (arith, nat_tests) in absurd (omega arith))
 
 -- a word that begins so and is read as a number is that number's spelling
-pub number_spelled : {E : Type 0} (word : List ℕ) (n : ℕ) (r : Result ℕ E) → begins_as_number word ≡ true → ParsesUnsigned 32 10 word r → r ≡ Ok n → word ≡ decimal n
-number_spelled {E} word n r begins parses is =
+pub number_spelled : {E : Type 0} (bits : ℕ) → 2 ^ bits ≤ 2 ^ 64 → (word : List ℕ) (n : ℕ) (r : Result ℕ E) → begins_as_number word ≡ true → ParsesUnsigned bits 10 word r → r ≡ Ok n
+    → word ≡ decimal n
+number_spelled {E} bits narrow word n r begins parses is =
     let first = begins_first word begins in
     let plus : get_or word 0 0 ≢ 43 = λ e. omega arith in
-    let ok = parse_plain own {E = E} 32 word (Ok n) (subst (λ (x : Result ℕ E). ParsesUnsigned 32 10 word x) is parses) plus in
-    let fits : digits_value 10 word < 2 ^ 64 = omega (arith, ok.0.2) in
+    let ok = parse_plain own {E = E} bits word (Ok n) (subst (λ (x : Result ℕ E). ParsesUnsigned bits 10 word x) is parses) plus in
+    let fits : digits_value 10 word < 2 ^ 64 = omega (arith, ok.0.2, narrow) in
     sym (decimal-digits_value own word ok.0.0 ok.0.1 first.2 fits) ∙ ap decimal (sym ok.1)
 
 some_digits : (word : List ℕ) → 0 < length word → 49 ≤ get_or word 0 0 → get_or word 0 0 ≤ 57 → begins_as_number word ≡ true
@@ -52,21 +53,20 @@ pub record IsSpelling (word : List ℕ) : Type 0 where
   pub begins : begins_as_number word ≡ true
   pub utf8 : IsUtf8 word
 
-pub number_reads : (word : List ℕ) (id : ℕ) → id < 2 ^ 32 → word ≡ decimal id → IsSpelling word
-number_reads word id small is =
-    let wide : id < 2 ^ 64 = omega arith in
+pub number_reads : (word : List ℕ) (id : ℕ) → id < 2 ^ 64 → word ≡ decimal id → IsSpelling word
+number_reads word id wide is =
     record {
       begins = ap begins_as_number is ∙ decimal_begins id wide;
       utf8 = subst IsUtf8 (sym is) (IsUtf8-from_ascii (decimal id) (IsAscii-decimal id wide));
     }
 
 -- what parsing answers is what the word spells
-pub number_parsed : {E : Type 0} (word text : List ℕ) (r : Result ℕ E) (o : Option ℕ) → text ≡ word → begins_as_number word ≡ true
-    → ParsesUnsigned 32 10 text r → o ≡ result_ok r → IsNumberOf word o
-number_parsed {E} word text (Ok n) o same begins parses is =
-    let read = subst (λ t. ParsesUnsigned {E = E} 32 10 t (Ok n)) same parses in
-    subst (IsNumberOf word) (sym is) (number_spelled {E = E} word n (Ok n) begins read refl)
-number_parsed {E} word text (Err e) o same begins parses is =
+pub number_parsed : {E : Type 0} (bits : ℕ) → 2 ^ bits ≤ 2 ^ 64 → (word text : List ℕ) (r : Result ℕ E) (o : Option ℕ) → text ≡ word → begins_as_number word ≡ true
+    → ParsesUnsigned bits 10 text r → o ≡ result_ok r → IsNumberOf bits word o
+number_parsed {E} bits narrow word text (Ok n) o same begins parses is =
+    let read = subst (λ t. ParsesUnsigned {E = E} bits 10 t (Ok n)) same parses in
+    subst (IsNumberOf bits word) (sym is) (number_spelled {E = E} bits narrow word n (Ok n) begins read refl)
+number_parsed {E} bits narrow word text (Err e) o same begins parses is =
     let r : Result ℕ E = Err e in
-    subst (IsNumberOf word) (sym is) (λ id small spells.
-    let reads : r ≡ Ok id = parse-decimal {E = E} 32 id text r small (omega arith) (same ∙ spells) parses in cc)
+    subst (IsNumberOf bits word) (sym is) (λ id small spells.
+    let reads : r ≡ Ok id = parse-decimal {E = E} bits id text r small (omega (arith, narrow)) (same ∙ spells) parses in cc)

@@ -17,11 +17,13 @@ use Rattle.hex.specs.Hex.{decode_of, encode_lower}
 use Rattle.hex.proofs.HexLemmas.{decode_of-encode_lower, decode_of-ok}
 use Rattle.mt_base.specs.declared.kinds.Role.{Role}
 use Rattle.mt_base.specs.declared.kinds.Role.TheVariants.{Server, Client}
+use Rattle.mt_base.specs.declared.kinds.Kind.{Kind}
+use Rattle.mt_base.specs.declared.kinds.Kind.TheVariants.{Reliable, Lossy}
 use Rattle.mt_base.proofs.Deciding.{holds_or_not}
 use Rattle.mt_script.specs.declared.event.Event.{Event}
 use Rattle.mt_script.specs.declared.event.Event.TheVariants.{Open, Send, Main}
 use Rattle.mt_script.specs.Lines.{Lacks}
-use Rattle.mt_script.specs.Spelling.{side_name, hex_text, words_of, spelled, IsBytes, IsWord, IsEvent}
+use Rattle.mt_script.specs.Spelling.{side_name, kind_name, hex_text, words_of, spelled, IsBytes, IsWord, IsEvent}
 use Rattle.mt_script.specs.Meaning.{commands}
 use Rattle.mt_script.specs.declared.values.Command.{Command}
 use Rattle.mt_script.specs.declared.values.Command.TheVariants as command
@@ -83,27 +85,29 @@ spelled-injective a b ha hb e = words_of-injective a b ha hb (sym (split_spelled
 -- ---- a spelling is a line
 
 -- a byte that can stand in a line
-abbrev Plain : ℕ → Type 0
+abbrev pub Plain : ℕ → Type 0
 Plain byte = (byte < 256) × (byte ≢ 10)
 
-is_plain : ℕ → Bool
+abbrev pub is_plain : ℕ → Bool
 is_plain byte = ltb byte 256 && not (eqb byte 10)
 
 plain_test : (byte : ℕ) → is_plain byte ≡ true → Plain byte
-unfolding is_plain
 plain_test byte h =
     let parts = and_parts (ltb byte 256) (not (eqb byte 10)) h in
     ((let small = parts.0 in grind (arith, nat_tests)), (λ e. let other = parts.1 in grind (arith, nat_tests)))
 
-plain_text : (text : List ℕ) → list_all is_plain text ≡ true → All Plain text
+pub plain_text : (text : List ℕ) → list_all is_plain text ≡ true → All Plain text
 plain_text text h = All-weaker (λ b. is_plain b ≡ true) Plain plain_test text (AllPass-from_list_all is_plain text h)
 
-plain_side : (side : Role) → All Plain (side_name side)
-unfolding is_plain
+pub plain_side : (side : Role) → All Plain (side_name side)
 plain_side Server = plain_text (side_name Server) refl
 plain_side Client = plain_text (side_name Client) refl
 
-plain_decimal : (id : ℕ) → id < 2 ^ 32 → All Plain (decimal id)
+pub plain_kind : (kind : Kind) → All Plain (kind_name kind)
+plain_kind Reliable = plain_text (kind_name Reliable) refl
+plain_kind Lossy = plain_text (kind_name Lossy) refl
+
+pub plain_decimal : (id : ℕ) → id < 2 ^ 64 → All Plain (decimal id)
 plain_decimal id small k d within =
     let digits = (decimal_is_IsNumeral id (omega arith)).0.1 in
     let range = digit_at (decimal id) k digits within in
@@ -113,21 +117,18 @@ plain_decimal id small k d within =
 plain_lower : (x : ℕ) → is_lower_digit x ≡ true → Plain x
 plain_lower x h = (grind (arith, nat_tests), (λ e. grind (arith, nat_tests)))
 
-plain_hex : (bytes : List ℕ) → IsBytes bytes → All Plain (hex_text bytes)
-unfolding is_plain
+pub plain_hex : (bytes : List ℕ) → IsBytes bytes → All Plain (hex_text bytes)
 plain_hex [] h = plain_text (codes "-") refl
 plain_hex (byte ∷ rest) h =
     All-weaker (λ x. is_lower_digit x ≡ true) Plain plain_lower (encode_lower (byte ∷ rest))
     (AllPass-from_list_all is_lower_digit (encode_lower (byte ∷ rest)) (lower_text (byte ∷ rest) h))
 
 plain_words : (event : Event) → IsEvent event → AllByRecursion (All Plain) (words_of event)
-unfolding is_plain
 plain_words (Open name) h = (plain_text (codes "open") refl, ((λ k d within. (h.0.bytes k d within, h.1 k d within)), tt))
-plain_words (Send side id message) h = (plain_text (codes "send") refl, (plain_side side, (plain_decimal id h.0, (plain_hex message h.1, tt))))
+plain_words (Send side id message) h = (plain_text (codes "send") refl, (plain_side side, (plain_decimal id (omega (arith, h.0)), (plain_hex message h.1, tt))))
 plain_words (Main side) h = (plain_text (codes "main") refl, (plain_side side, (plain_text (codes "all") refl, tt)))
 
-plain_joined : (words : List (List ℕ)) → AllByRecursion (All Plain) words → All Plain (join_with_byte 32 words)
-unfolding is_plain
+pub plain_joined : (words : List (List ℕ)) → AllByRecursion (All Plain) words → All Plain (join_with_byte 32 words)
 plain_joined [] h = All-nil Plain
 plain_joined (word ∷ []) h = h.0
 plain_joined (word ∷ next ∷ words) h = All-append Plain word (32 ∷ join_with_byte 32 (next ∷ words)) h.0 (All-cons Plain 32 (join_with_byte 32 (next ∷ words)) (plain_test 32 refl) (plain_joined (next ∷ words) h.1))
@@ -140,7 +141,7 @@ spelled_line event h =
 
 -- ---- what can be told
 
-same_or_not : (a b : List ℕ) → (a ≡ b) ⊎ (a ≢ b)
+pub same_or_not : (a b : List ℕ) → (a ≡ b) ⊎ (a ≢ b)
 same_or_not a b = holds_or_not (bytes_eq a b) (bytes_eq-Decides a b)
 
 -- a word that spells one of these values, or none

@@ -46,10 +46,10 @@ abbrev pub IsNameOf : {A : Type 0} → (A → List ℕ) → List ℕ → Option 
 IsNameOf name word None = (value : _) → word ≢ name value
 IsNameOf name word (Some value) = word ≡ name value
 
--- a word is the number below 2 ^ 32 as it is spelled, or it is none
-abbrev pub IsNumberOf : List ℕ → Option ℕ → Type 0
-IsNumberOf word None = (id : ℕ) → id < 2 ^ 32 → word ≢ decimal id
-IsNumberOf word (Some id) = word ≡ decimal id
+-- a word is the number below 2 ^ bits as it is spelled, or it is none
+abbrev pub IsNumberOf : ℕ → List ℕ → Option ℕ → Type 0
+IsNumberOf bits word None = (number : ℕ) → number < 2 ^ bits → word ≢ decimal number
+IsNumberOf bits word (Some number) = word ≡ decimal number
 
 -- One word was taken, and it is the name of the value; or it is of none, or there is no word.
 abbrev pub TakesName : {A : Type 0} → (A → List ℕ) → List (List ℕ) → List (List ℕ) → Option A

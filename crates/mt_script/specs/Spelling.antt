@@ -6,6 +6,8 @@ use Rattle.mt_script.specs.Lines.{Lacks}
 use Rattle.hex.specs.Hex.{encode_lower}
 use Rattle.mt_base.specs.declared.kinds.Role.{Role}
 use Rattle.mt_base.specs.declared.kinds.Role.TheVariants.{Server, Client}
+use Rattle.mt_base.specs.declared.kinds.Kind.{Kind}
+use Rattle.mt_base.specs.declared.kinds.Kind.TheVariants.{Reliable, Lossy}
 use Rattle.mt_script.specs.declared.event.Event.{Event}
 use Rattle.mt_script.specs.declared.event.Event.TheVariants.{Open, Send, Main}
 
@@ -13,6 +15,11 @@ use Rattle.mt_script.specs.declared.event.Event.TheVariants.{Open, Send, Main}
 abbrev pub side_name : Role → List ℕ
 side_name Server = codes "server"
 side_name Client = codes "client"
+
+-- a kind of link
+abbrev pub kind_name : Kind → List ℕ
+kind_name Reliable = codes "reliable"
+kind_name Lossy = codes "lossy"
 
 -- bytes as pairs of lower case digits; `-` for none
 abbrev pub hex_text : List ℕ → List ℕ
@@ -32,6 +39,10 @@ spelled event = join_with_byte 32 (words_of event)
 -- bytes
 abbrev pub IsBytes : List ℕ → Type 0
 IsBytes bytes = All (λ byte. byte < 256) bytes
+
+-- a security cookie (MS-RDPBCGR section 2.2.15.1): sixteen bytes
+abbrev pub IsCookie : List ℕ → Type 0
+IsCookie cookie = IsBytes cookie × (length cookie ≡ 16)
 
 -- a word: bytes, at least one, and no blank
 pub record IsWord (word : List ℕ) : Type 0 where

@@ -5,11 +5,14 @@ ghost use Rattle.mt_script.specs.Reading.{refusal_at};
 
 use crate::event::ScriptRefusal;
 
-/// Why a line is no line of a script.
+/// Why a line is no line of a script, or of another file of lines.
 #[derive(Clone, Copy, Debug, PartialEq, Eq)]
-pub(crate) enum LineFault {
+pub enum LineFault {
+    /// The first word is no command.
     BadCommand,
+    /// A word is missing, is not what stands at its place, or is one too many.
     BadWords,
+    /// Memory ran out.
     NoMemory,
 }
 

@@ -1,18 +1,19 @@
-//! What one word of a line spells: a command, a name, a side, a number or bytes.
+//! What one word of a line spells: a command, a name, a side, a kind of link, a number, bytes or a
+//! cookie.
 
 ghost use Rattle.std.specs.Prelude.{◌≡◌, ◌≢◌, ℕ, ◌<◌, ◌^◌, IfSome, IfNone, IfOk};
 ghost use Rattle.std.specs.Fmt.{decimal};
 ghost use Rattle.std.specs.List.{list_all};
 ghost use Rattle.mt_base.specs.declared.kinds.Role.{Role};
 ghost use Rattle.mt_script.specs.Lines.{Lacks};
-ghost use Rattle.mt_script.specs.Spelling.{side_name, hex_text, IsBytes, IsWord, SpellsBytes};
+ghost use Rattle.mt_script.specs.Spelling.{side_name, kind_name, hex_text, IsBytes, IsCookie, IsWord, SpellsBytes};
 ghost use Rattle.mt_script.specs.declared.values.Command.{Command};
 ghost use Rattle.mt_script.specs.Reading.{IsNameOf, IsNumberOf, Spells, command_name, is_lower_digit, is_lower_hex, decoding_fault, begins_as_number};
 
 use crate::fault::LineFault;
 use crate::text::Text;
 use hex::FromHexError;
-use mt_base::{NoMemory, Role};
+use mt_base::{Kind, NoMemory, Role};
 use std::alloc::Global;
 
 /// The first word of an event's line.
@@ -60,6 +61,17 @@ pub(crate) fn side_of(word: &[u8]) -> Option<Role>
     }
 }
 
+/// The kind of link that a word spells.
+pub(crate) fn kind_of(word: &[u8]) -> Option<Kind>
+    ensures { IsNameOf kind_name word.now result }
+{
+    match word {
+        b"reliable" => Some(Kind::Reliable),
+        b"lossy" => Some(Kind::Lossy),
+        _ => None,
+    }
+}
+
 /// Whether a word is `0`, or begins with another digit.
 fn begins_as_number(word: &[u8]) -> bool
     ensures { result ≡ begins_as_number word.now }
@@ -73,7 +85,20 @@ fn begins_as_number(word: &[u8]) -> bool
 
 /// The number below 2^32 that a word spells, written with no zero in front.
 pub(crate) fn number_of(word: &[u8]) -> Option<u32>
-    ensures { IsNumberOf word.now result }
+    ensures { IsNumberOf 32 word.now result }
+{
+    if !begins_as_number(word) {
+        return None;
+    }
+    match str::from_utf8(word) {
+        Ok(text) => text.parse().ok(),
+        Err(_) => None,
+    }
+}
+
+/// The number below 2^64 that a word spells, written with no zero in front.
+pub(crate) fn count_of(word: &[u8]) -> Option<u64>
+    ensures { IsNumberOf 64 word.now result }
 {
     if !begins_as_number(word) {
         return None;
@@ -123,6 +148,20 @@ pub(crate) fn bytes_of(alloc: Global, word: &[u8]) -> Result<Text, LineFault>
         Ok(kept) => Ok(Text::from_vec(kept)),
         Err(error) => Err(decoding_fault(error)),
     }
+}
+
+/// The sixteen bytes that a word spells.
+pub(crate) fn cookie_of(alloc: Global, word: &[u8]) -> Result<[u8; 16], LineFault>
+    ensures { Spells IsCookie hex_text word.now result }
+{
+    let spelled = bytes_of(alloc, word)?;
+    let bytes = spelled.bytes();
+    if bytes.len() != 16 {
+        return Err(LineFault::BadWords);
+    }
+    let mut cookie = [0; 16];
+    cookie.copy_from_slice(bytes);
+    Ok(cookie)
 }
 
 /// The bytes that a word spells, pairs of lower case digits or `-` for none; `None` where it spells
