@@ -1,5 +1,5 @@
 -- Each event has a spelling of its own; and it can be told whether words are those of an event.
-use Rattle.std.proofs.Common.{◌≡◌, ◌≢◌, ℕ, ◌<◌, ◌^◌, ◌%◌, Bool, true, false, not, ltb, eqb, ◌&&◌, ◌⊎◌, inl, inr, List, [], ◌∷◌, length, Ok, refl, sym, ap, subst, ◌∙◌, codes, arith}
+use Rattle.std.proofs.Common.{◌≡◌, ◌≢◌, ℕ, ◌<◌, ◌^◌, ◌%◌, Bool, true, false, not, ltb, eqb, ◌&&◌, ◌⊎◌, inl, inr, List, [], ◌∷◌, length, Result, Ok, Err, cond, refl, sym, ap, subst, ◌∙◌, codes, arith}
 use Rattle.std.proofs.lemmas.Bool.{cases_lt, and_parts}
 use Rattle.std.proofs.lemmas.Bool.Decides.{nat_tests, Decides-and, Decides-eqb}
 use Rattle.std.proofs.lemmas.Fmt.{decimal_is_IsNumeral, decimal_injective}
@@ -14,6 +14,7 @@ use Rattle.std.specs.Fmt.{decimal}
 use Rattle.std.specs.Str.{bytes_eq}
 use Rattle.std.specs.Str.Parse.{digits_value}
 use Rattle.hex.specs.Hex.{decode_of, encode_lower}
+use Rattle.hex.specs.declared.error.FromHexError.{FromHexError}
 use Rattle.hex.proofs.HexLemmas.{decode_of-encode_lower, decode_of-ok}
 use Rattle.mt_base.specs.declared.kinds.Role.{Role}
 use Rattle.mt_base.specs.declared.kinds.Role.TheVariants.{Server, Client}
@@ -81,6 +82,46 @@ words_of-injective (Main s) (Main t) ha hb e =
 -- no two events have one spelling
 pub spelled-injective : (a b : Event) → IsEvent a → IsEvent b → spelled a ≡ spelled b → a ≡ b
 spelled-injective a b ha hb e = words_of-injective a b ha hb (sym (split_spelled a ha) ∙ ap split_at_blanks e ∙ split_spelled b hb)
+
+-- ---- words read back
+
+abbrev pub side_of : List ℕ → Role
+side_of word = cond (bytes_eq word (codes "server")) Server Client
+
+pub side_back : (side : Role) → side_of (side_name side) ≡ side
+side_back Server = refl
+side_back Client = refl
+
+abbrev pub kind_of : List ℕ → Kind
+kind_of word = cond (bytes_eq word (codes "reliable")) Reliable Lossy
+
+pub kind_back : (kind : Kind) → kind_of (kind_name kind) ≡ kind
+kind_back Reliable = refl
+kind_back Lossy = refl
+
+pub number_back : (n : ℕ) → n < 2 ^ 64 → digits_value 10 (decimal n) ≡ n
+number_back n small = (decimal_is_IsNumeral n small).1
+
+decoded : Result (List ℕ) FromHexError → List ℕ
+decoded (Ok bytes) = bytes
+decoded (Err e) = []
+
+pub bytes_of : List ℕ → List ℕ
+bytes_of word = cond (bytes_eq word (codes "-")) [] (decoded (decode_of word))
+
+not_true : (b : Bool) → (b ≡ true → ⊥) → b ≡ false
+not_true true h = absurd (h refl)
+not_true false h = refl
+
+other_text : (byte : ℕ) (rest : List ℕ) → bytes_eq (encode_lower (byte ∷ rest)) (codes "-") ≡ false
+other_text byte rest = not_true _ (λ h. not_dash byte rest (sym ((bytes_eq-Decides (encode_lower (byte ∷ rest)) (codes "-")).0 h)))
+
+pub bytes_back : (bytes : List ℕ) → IsBytes bytes → bytes_of (hex_text bytes) ≡ bytes
+unfolding bytes_of decoded
+bytes_back [] h = refl
+bytes_back (byte ∷ rest) h =
+    ap (λ b. cond b [] (decoded (decode_of (encode_lower (byte ∷ rest))))) (other_text byte rest)
+    ∙ ap decoded (decode_of-encode_lower (byte ∷ rest) (bytes_there (byte ∷ rest) h))
 
 -- ---- a spelling is a line
 

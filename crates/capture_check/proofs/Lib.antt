@@ -1,0 +1,4 @@
+pub mod EntryLines
+pub mod CaptureLines
+pub mod ReadBack
+pub mod OneAnswer
