@@ -10,12 +10,17 @@
 mod capture;
 mod entry;
 mod first;
+mod given;
+mod judgement;
 mod laws;
 mod line;
+mod numbers;
 
 pub use capture::{Capture, read_capture};
 pub use entry::{CaptureRefusal, Entry};
+pub use judgement::Judgement;
 pub use laws::{one_answer, one_spelling};
+pub use numbers::check_numbers;
 
 #[cfg(test)]
 mod tests;

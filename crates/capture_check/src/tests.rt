@@ -148,3 +148,68 @@ fn laws_are_public() {
     one_spelling();
     one_answer();
 }
+
+/// What the rules of numbers say of a capture.
+fn judged(rt: HostRuntime, text: &[u8]) -> Result<Judgement, Fail> {
+    let capture = read_capture(rt.alloc(), text)?;
+    let judgement = check_numbers(rt.alloc(), &capture)?;
+    Ok(judgement)
+}
+
+#[test]
+fn an_empty_capture_holds(rt: HostRuntime) -> Result<(), Fail> {
+    assert_eq!(rt; judged(rt, b"")?, Judgement::Holds);
+    Ok(())
+}
+
+#[test]
+fn numbers_count_up_by_side_and_kind(rt: HostRuntime) -> Result<(), Fail> {
+    let text =
+        b"out server lossy 0 -\nout client lossy 0 -\nout server lossy 1 -\nin server lossy 1";
+    assert_eq!(rt; judged(rt, text)?, Judgement::Holds);
+    Ok(())
+}
+
+#[test]
+fn the_first_broken_line_is_told(rt: HostRuntime) -> Result<(), Fail> {
+    let rows: [(&[u8], u64, u8); 4] = [
+        (b"in server reliable 0\nout server reliable 0 -", 1, 2),
+        (b"out client reliable 1 -", 1, 1),
+        (b"out server lossy 0 -\nin server reliable 0", 2, 2),
+        (
+            b"out server lossy 0 -\nin client lossy 0\nout server lossy 0 -",
+            2,
+            2,
+        ),
+    ];
+    for (text, line, rule) in rows {
+        assert_eq!(rt; judged(rt, text)?, Judgement::Breaks { line, rule });
+    }
+    Ok(())
+}
+
+/// A datagram of the server, this many of the client, and the arrival of the server's.
+fn arrival_after(rt: HostRuntime, others: u64) -> Result<Judgement, Fail> {
+    let mut text = String::from_str(rt.alloc(), "out server lossy 0 -\n")?;
+    for number in 0..others {
+        text.push_str(&format!(in rt.alloc(); "out client lossy {number} -\n")?)?;
+    }
+    text.push_str("in server lossy 0\n")?;
+    judged(rt, text.as_bytes())
+}
+
+#[test]
+fn a_datagram_may_be_passed_by_1023_others(rt: HostRuntime) -> Result<(), Fail> {
+    assert_eq!(rt; arrival_after(rt, 1023)?, Judgement::Holds);
+    Ok(())
+}
+
+#[test]
+fn a_datagram_that_1024_others_passed_is_late(rt: HostRuntime) -> Result<(), Fail> {
+    let late = Judgement::Breaks {
+        line: 1026,
+        rule: 3,
+    };
+    assert_eq!(rt; arrival_after(rt, 1024)?, late);
+    Ok(())
+}

@@ -1,0 +1,109 @@
+-- The rules of a capture that speak of the numbers of datagrams, and what breaks them. Each is
+-- judged at an entry, from it and the entries before it.
+use Rattle.std.specs.Prelude.{◌≡◌, ℕ, ◌+◌, ◌<◌, Bool, true, false, List, [], ◌∷◌, ◌++◌, length}
+use Rattle.mt_base.specs.declared.kinds.Role.{Role}
+use Rattle.mt_base.specs.declared.kinds.Role.TheVariants.{Server, Client}
+use Rattle.mt_base.specs.declared.kinds.Kind.{Kind}
+use Rattle.mt_base.specs.declared.kinds.Kind.TheVariants.{Reliable, Lossy}
+use Rattle.capture_check.specs.declared.entry.Entry.{Entry}
+use Rattle.capture_check.specs.declared.entry.Entry.TheVariants.{Issue, Open, Sent, Got, Main, Word, Out, In}
+use Rattle.capture_check.specs.declared.judgement.Judgement.{Judgement}
+use Rattle.capture_check.specs.declared.judgement.Judgement.TheVariants.{Holds, Breaks}
+
+abbrev pub same_kind : Kind → Kind → Bool
+same_kind Reliable Reliable = true
+same_kind Lossy Lossy = true
+same_kind Reliable Lossy = false
+same_kind Lossy Reliable = false
+
+abbrev pub same_side : Role → Role → Bool
+same_side Server Server = true
+same_side Client Client = true
+same_side Server Client = false
+same_side Client Server = false
+
+abbrev pub and_also : Bool → Bool → Bool
+and_also true b = b
+and_also false b = false
+
+-- an entry is an `out` of this kind, of either side
+abbrev pub is_out : Kind → Entry → Bool
+is_out kind (Out s k number datagram) = same_kind kind k
+is_out kind other = false
+
+-- an entry is an `out` of this side and kind
+abbrev pub is_out_of : Role → Kind → Entry → Bool
+is_out_of side kind (Out s k number datagram) = and_also (same_side side s) (same_kind kind k)
+is_out_of side kind other = false
+
+-- how many entries pass a test
+abbrev pub bit : Bool → ℕ
+bit true = 1
+bit false = 0
+
+abbrev pub how_many : (Entry → Bool) → List Entry → ℕ
+how_many test [] = 0
+how_many test (entry ∷ rest) = bit (test entry) + how_many test rest
+
+-- an `out` of this side, kind and number stands among entries: those before it, and those behind it
+pub record HasOut (side : Role) (kind : Kind) (number : ℕ) (entries : List Entry) : Type 0 where
+  pub front : List Entry
+  pub datagram : List ℕ
+  pub back : List Entry
+  pub parts : entries ≡ front ++ Out side kind number datagram ∷ back
+
+-- a datagram is late where so many others were given on its link, by both sides, after it and before
+-- it arrived
+abbrev pub late : ℕ
+late = 1024
+
+-- Rule 1: the numbers of a side's `out` entries of a kind are 0, 1, 2 and so on.
+abbrev pub CountsUp : List Entry → Entry → Type 0
+CountsUp before (Out side kind number datagram) = number ≡ how_many (is_out_of side kind) before
+CountsUp before other = Unit {0}
+
+-- Rule 2: an `in` names an earlier `out`.
+abbrev pub NamesOut : List Entry → Entry → Type 0
+NamesOut before (In side kind number) = HasOut side kind number before
+NamesOut before other = Unit {0}
+
+-- Rule 3: fewer `out` entries of its kind than make a datagram late stand between an `in` and the
+-- `out` that it names.
+abbrev pub IsTimely : List Entry → Entry → Type 0
+IsTimely before (In side kind number) =
+    (given : HasOut side kind number before) → how_many (is_out kind) given.back < late
+IsTimely before other = Unit {0}
+
+-- an entry keeps the three rules
+pub record KeepsNumbers (before : List Entry) (entry : Entry) : Type 0 where
+  pub counts : CountsUp before entry
+  pub names : NamesOut before entry
+  pub timely : IsTimely before entry
+
+-- each entry does
+abbrev pub NumbersHold : List Entry → Type 0
+NumbersHold entries =
+    (before : List Entry) (entry : Entry) (after : List Entry)
+    → entries ≡ before ++ entry ∷ after → KeepsNumbers before entry
+
+-- the least of the three rules that an entry breaks
+pub data BreaksRule (before : List Entry) (entry : Entry) (rule : ℕ) : Type 0 where
+  first : rule ≡ 1 → ¬ CountsUp before entry → BreaksRule before entry rule
+  second : rule ≡ 2 → CountsUp before entry → ¬ NamesOut before entry → BreaksRule before entry rule
+  third : rule ≡ 3 → CountsUp before entry → NamesOut before entry → ¬ IsTimely before entry
+      → BreaksRule before entry rule
+
+-- the first entry that breaks a rule stands in this line, counted from 1, and breaks this one
+pub record FirstBreak (entries : List Entry) (line rule : ℕ) : Type 0 where
+  pub before : List Entry
+  pub entry : Entry
+  pub after : List Entry
+  pub parts : entries ≡ before ++ entry ∷ after
+  pub kept : NumbersHold before
+  pub broken : BreaksRule before entry rule
+  pub line_is : line ≡ length before + 1
+
+-- what a capture is judged to be by the three rules
+abbrev pub JudgedByNumbers : List Entry → Judgement → Type 0
+JudgedByNumbers entries Holds = NumbersHold entries
+JudgedByNumbers entries (Breaks line rule) = FirstBreak entries line rule
