@@ -4,3 +4,4 @@ pub mod ReadBack
 pub mod OneAnswer
 pub mod Places
 pub mod Judging
+pub mod OneJudgement

@@ -3,11 +3,13 @@
 ghost use Rattle.std.specs.Prelude.{◌≡◌, ◌≤◌, ℕ, List, All, length, map, Result, Ok};
 ghost use Rattle.capture_check.specs.declared.entry.Entry.{Entry};
 ghost use Rattle.capture_check.specs.declared.entry.CaptureRefusal.{CaptureRefusal};
+ghost use Rattle.capture_check.specs.declared.judgement.Judgement.{Judgement};
 ghost use Rattle.mt_script.specs.Lines.{Lacks, ended};
 ghost use Rattle.mt_script.specs.Meaning.{line_limit};
 ghost use Rattle.mt_script.specs.Spelling.{IsBytes};
 ghost use Rattle.capture_check.specs.Spelling.{IsEntry, spelled};
 ghost use Rattle.capture_check.specs.Meaning.{ReadsAs};
+ghost use Rattle.capture_check.specs.Rules.{JudgedByNumbers};
 
 /// Each entry has one spelling, which no other entry has and which is a line.
 pub fn one_spelling()
@@ -26,4 +28,12 @@ pub fn one_answer()
     ensures written { (entries : List Entry)
         → length entries ≤ line_limit → All IsEntry entries
         → ReadsAs (ended (map spelled entries)) (Ok entries) }
+{}
+
+/// The rules of numbers judge each list of entries in exactly one way.
+pub fn one_judgement()
+    ensures some { (entries : List Entry)
+        → (judgement : Judgement) × JudgedByNumbers entries judgement }
+    ensures one { (entries : List Entry) (a b : Judgement)
+        → JudgedByNumbers entries a → JudgedByNumbers entries b → a ≡ b }
 {}

@@ -19,7 +19,7 @@ mod numbers;
 pub use capture::{Capture, read_capture};
 pub use entry::{CaptureRefusal, Entry};
 pub use judgement::Judgement;
-pub use laws::{one_answer, one_spelling};
+pub use laws::{one_answer, one_judgement, one_spelling};
 pub use numbers::check_numbers;
 
 #[cfg(test)]

@@ -147,6 +147,7 @@ fn other_words_are_no_entry(rt: HostRuntime) {
 fn laws_are_public() {
     one_spelling();
     one_answer();
+    one_judgement();
 }
 
 /// What the rules of numbers say of a capture.
