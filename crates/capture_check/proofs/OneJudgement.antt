@@ -1,5 +1,5 @@
 -- Each list of entries is judged in exactly one way by the rules of numbers.
-use Rattle.std.proofs.Common.{◌≡◌, ℕ, ◌+◌, ◌⊎◌, inl, inr, List, [], ◌∷◌, ◌++◌, length, Option, Some, None, refl, sym, ap, subst, ◌∙◌, append_assoc, append-nil}
+use Rattle.std.proofs.Common.{◌≡◌, ℕ, ◌+◌, List, [], ◌∷◌, ◌++◌, length, Option, Some, None, refl, sym, ap, subst, ◌∙◌, append_assoc, append-nil}
 use Rattle.mt_base.proofs.Lists.{heads}
 use Rattle.capture_check.specs.declared.entry.Entry.{Entry}
 use Rattle.capture_check.specs.declared.judgement.Judgement.{Judgement}

@@ -1,14 +1,13 @@
 -- The places of the datagrams that were given, and the entries that gave them.
-use Rattle.std.proofs.Common.{◌≡◌, ◌≢◌, ℕ, zero, suc, ◌<◌, ◌≤◌, ◌+◌, ◌-◌, Bool, true, false, eqb, ltb, cond, List, [], ◌∷◌, ◌++◌, length, slice_get, Option, Some, None, refl, sym, ap, subst, ◌∙◌, append_assoc, append-nil, length-append, arith}
-use Rattle.mt_base.proofs.Lists.{heads, slice_get-append-left, slice_get-append-right}
+use Rattle.std.proofs.Common.{◌≡◌, ℕ, ◌+◌, Bool, true, false, List, [], ◌∷◌, ◌++◌, length, refl, sym, ap, ◌∙◌, append_assoc, append-nil, length-append, arith}
 use Rattle.mt_base.specs.declared.kinds.Role.{Role}
 use Rattle.mt_base.specs.declared.kinds.Role.TheVariants.{Server, Client}
 use Rattle.mt_base.specs.declared.kinds.Kind.{Kind}
 use Rattle.mt_base.specs.declared.kinds.Kind.TheVariants.{Reliable, Lossy}
 use Rattle.capture_check.specs.declared.entry.Entry.{Entry}
 use Rattle.capture_check.specs.declared.entry.Entry.TheVariants.{Issue, Open, Sent, Got, Main, Word, Out, In}
-use Rattle.capture_check.specs.Rules.{same_side, same_kind, and_also, is_out, is_out_of, bit, how_many, HasOut, CountsUp, NumbersHold}
-use Rattle.capture_check.specs.GivenSoFar.{Given, places, given_of, with_out, with_entry, no_datagrams}
+use Rattle.capture_check.specs.Rules.{is_out, is_out_of, bit, how_many}
+use Rattle.capture_check.specs.GivenSoFar.{Given, places, given_of, with_entry, no_datagrams}
 
 -- a place, if an entry has one
 abbrev pub one : Bool → ℕ → List ℕ

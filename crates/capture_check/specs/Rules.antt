@@ -6,7 +6,7 @@ use Rattle.mt_base.specs.declared.kinds.Role.TheVariants.{Server, Client}
 use Rattle.mt_base.specs.declared.kinds.Kind.{Kind}
 use Rattle.mt_base.specs.declared.kinds.Kind.TheVariants.{Reliable, Lossy}
 use Rattle.capture_check.specs.declared.entry.Entry.{Entry}
-use Rattle.capture_check.specs.declared.entry.Entry.TheVariants.{Issue, Open, Sent, Got, Main, Word, Out, In}
+use Rattle.capture_check.specs.declared.entry.Entry.TheVariants.{Out, In}
 use Rattle.capture_check.specs.declared.judgement.Judgement.{Judgement}
 use Rattle.capture_check.specs.declared.judgement.Judgement.TheVariants.{Holds, Breaks}
 
