@@ -1,6 +1,6 @@
-use mt_base::Role;
+use mt_base::{Kind, Role};
 use mt_script::{
-    Event, ScriptRefusal, Text, count_lines, cut_into_lines, cut_line, events_read, hex_bytes,
+    Event, ScriptRefusal, Text, Words, count_lines, cut_into_lines, cut_line, events_read, hex_bytes,
     one_answer, one_meaning, one_spelling, read_script,
 };
 use std::test::*;
@@ -93,6 +93,23 @@ fn words_of_bytes_are_read(rt: HostRuntime) -> Result<(), Fail> {
         assert_eq!(rt; read.as_ref().map(|text| text.bytes()), bytes);
     }
     Ok(())
+}
+
+#[test]
+fn words_are_taken_one_by_one(rt: HostRuntime) {
+    let mut words = Words::new(b"out lossy 18446744073709551615");
+    assert_eq!(rt; words.word(), Some(b"out".as_slice()));
+    assert_eq!(rt; words.kind(), Ok(Kind::Lossy));
+    assert_eq!(rt; words.count(), Ok(18446744073709551615));
+    assert_eq!(rt; words.end(), Ok(()));
+}
+
+#[test]
+fn a_cookie_has_sixteen_bytes(rt: HostRuntime) {
+    let mut words = Words::new(b"000102030405060708090a0b0c0d0e0f 0001");
+    let cookie = [0, 1, 2, 3, 4, 5, 6, 7, 8, 9, 10, 11, 12, 13, 14, 15];
+    assert_eq!(rt; words.cookie(rt.alloc()), Ok(cookie));
+    assert_eq!(rt; words.cookie(rt.alloc()), Err(LineFault::BadWords));
 }
 
 #[test]
