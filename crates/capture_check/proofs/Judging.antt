@@ -1,6 +1,6 @@
 -- The rule that an entry breaks, told from the datagrams that were given.
 use Rattle.std.proofs.Common.{◌≡◌, ◌≢◌, ℕ, zero, suc, ◌<◌, ◌≤◌, ◌+◌, ◌-◌, ◌⊎◌, inl, inr, Bool, true, false, eqb, ltb, cond, List, [], ◌∷◌, ◌++◌, length, take, get_or, slice_get, Option, Some, None, refl, sym, ap, subst, ◌∙◌, arith}
-use Rattle.std.proofs.lemmas.Bool.{eqb-true}
+use Rattle.std.proofs.lemmas.Bool.{and_parts, eqb-true}
 use Rattle.std.proofs.lemmas.Bool.Decides.{nat_tests}
 use Rattle.mt_base.proofs.Lists.{heads, slice_get-append-right}
 use Rattle.mt_base.specs.declared.kinds.Role.{Role}
@@ -9,7 +9,7 @@ use Rattle.mt_base.specs.declared.kinds.Kind.{Kind}
 use Rattle.mt_base.specs.declared.kinds.Kind.TheVariants.{Reliable, Lossy}
 use Rattle.capture_check.specs.declared.entry.Entry.{Entry}
 use Rattle.capture_check.specs.declared.entry.Entry.TheVariants.{Issue, Open, Sent, Got, Main, Word, Out, In}
-use Rattle.capture_check.specs.Rules.{same_side, same_kind, and_also, is_out, is_out_of, bit, how_many, HasOut, late, CountsUp, NamesOut, IsTimely, KeepsNumbers, NumbersHold, FirstBreak, BreaksRule, first, second, third}
+use Rattle.capture_check.specs.Rules.{same_side, same_kind, is_out, is_out_of, bit, how_many, HasOut, late, CountsUp, NamesOut, IsTimely, KeepsNumbers, NumbersHold, FirstBreak, BreaksRule, first, second, third}
 use Rattle.capture_check.specs.GivenSoFar.{Given, places, given_of, with_entry, no_datagrams, arrival_rule, rule_broken}
 use Rattle.capture_check.proofs.Places.{one, places_from, places_from-cons, places_from-append, length-places_from, how_many-append, given_by, places_by, given_of_by, none_given, one_more}
 
@@ -26,10 +26,6 @@ kinds_same Reliable Reliable h = refl
 kinds_same Lossy Lossy h = refl
 kinds_same Reliable Lossy h = cc
 kinds_same Lossy Reliable h = cc
-
-both_true : (a b : Bool) → and_also a b ≡ true → (a ≡ true) × (b ≡ true)
-both_true true b h = (refl, h)
-both_true false b h = cc
 
 itself : (side : Role) (kind : Kind) (number : ℕ) (datagram : List ℕ) → is_out_of side kind (Out side kind number datagram) ≡ true
 itself Server Reliable number datagram = refl
@@ -50,7 +46,7 @@ passes side kind (Got s id message) h = cc
 passes side kind (Main s bytes) h = cc
 passes side kind (Word s k id) h = cc
 passes side kind (Out s k number datagram) h =
-    let parts = both_true (same_side side s) (same_kind kind k) h in
+    let parts = and_parts (same_side side s) (same_kind kind k) h in
     (number, datagram, ap (λ x. Out x k number datagram) (sym (sides_same side s parts.0)) ∙ ap (λ x. Out side x number datagram) (sym (kinds_same kind k parts.1)))
 passes side kind (In s k number) h = cc
 

@@ -1,6 +1,6 @@
 -- The rules of a capture that speak of the numbers of datagrams, and what breaks them. Each is
 -- judged at an entry, from it and the entries before it.
-use Rattle.std.specs.Prelude.{◌≡◌, ℕ, ◌+◌, ◌<◌, Bool, true, false, List, [], ◌∷◌, ◌++◌, length}
+use Rattle.std.specs.Prelude.{◌≡◌, ℕ, ◌+◌, ◌<◌, ◌&&◌, Bool, true, false, List, [], ◌∷◌, ◌++◌, length}
 use Rattle.mt_base.specs.declared.kinds.Role.{Role}
 use Rattle.mt_base.specs.declared.kinds.Role.TheVariants.{Server, Client}
 use Rattle.mt_base.specs.declared.kinds.Kind.{Kind}
@@ -22,10 +22,6 @@ same_side Client Client = true
 same_side Server Client = false
 same_side Client Server = false
 
-abbrev pub and_also : Bool → Bool → Bool
-and_also true b = b
-and_also false b = false
-
 -- an entry is an `out` of this kind, of either side
 abbrev pub is_out : Kind → Entry → Bool
 is_out kind (Out s k number datagram) = same_kind kind k
@@ -33,7 +29,7 @@ is_out kind other = false
 
 -- an entry is an `out` of this side and kind
 abbrev pub is_out_of : Role → Kind → Entry → Bool
-is_out_of side kind (Out s k number datagram) = and_also (same_side side s) (same_kind kind k)
+is_out_of side kind (Out s k number datagram) = same_side side s && same_kind kind k
 is_out_of side kind other = false
 
 -- how many entries pass a test
