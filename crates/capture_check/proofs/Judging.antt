@@ -3,15 +3,16 @@ use Rattle.std.proofs.Common.{◌≡◌, ◌≢◌, ℕ, zero, suc, ◌<◌, ◌
 use Rattle.std.proofs.lemmas.Bool.{and_parts, eqb-true}
 use Rattle.std.proofs.lemmas.Bool.Decides.{nat_tests}
 use Rattle.mt_base.proofs.Lists.{heads, slice_get-append-right}
+use Rattle.std.specs.List.{count_by}
 use Rattle.mt_base.specs.declared.kinds.Role.{Role}
 use Rattle.mt_base.specs.declared.kinds.Role.TheVariants.{Server, Client}
 use Rattle.mt_base.specs.declared.kinds.Kind.{Kind}
 use Rattle.mt_base.specs.declared.kinds.Kind.TheVariants.{Reliable, Lossy}
 use Rattle.capture_check.specs.declared.entry.Entry.{Entry}
 use Rattle.capture_check.specs.declared.entry.Entry.TheVariants.{Issue, Open, Sent, Got, Main, Word, Out, In}
-use Rattle.capture_check.specs.Rules.{same_side, same_kind, is_out, is_out_of, bit, how_many, HasOut, late, CountsUp, NamesOut, IsTimely, KeepsNumbers, NumbersHold, FirstBreak, BreaksRule, first, second, third}
+use Rattle.capture_check.specs.Rules.{same_side, same_kind, is_out, is_out_of, HasOut, late, CountsUp, NamesOut, IsTimely, KeepsNumbers, NumbersHold, FirstBreak, BreaksRule, first, second, third}
 use Rattle.capture_check.specs.GivenSoFar.{Given, places, given_of, with_entry, no_datagrams, arrival_rule, rule_broken}
-use Rattle.capture_check.proofs.Places.{one, places_from, places_from-cons, places_from-append, length-places_from, how_many-append, given_by, places_by, given_of_by, none_given, one_more}
+use Rattle.capture_check.proofs.Places.{bit, how_many, counted, one, places_from, places_from-cons, places_from-append, length-places_from, how_many-append, given_by, places_by, given_of_by, none_given, one_more}
 
 -- ---- an entry that passes
 
@@ -93,7 +94,7 @@ has_out side kind number before holds few =
     let out = passes side kind p.entry p.passed in
     let parts : before ≡ p.front ++ Out side kind out.0 out.1 ∷ p.back = p.parts ∙ ap (λ e. p.front ++ e ∷ p.back) out.2 in
     let counts = (holds p.front (Out side kind out.0 out.1) p.back parts).counts in
-    let is : out.0 ≡ number = counts ∙ p.earlier in
+    let is : out.0 ≡ number = counts ∙ sym (counted (is_out_of side kind) p.front) ∙ p.earlier in
     record { front = p.front; datagram = out.1; back = p.back; parts = parts ∙ ap (λ n. p.front ++ Out side kind n out.1 ∷ p.back) is }
 
 -- and an `out` has its number's place
@@ -101,7 +102,7 @@ pub place_of : (side : Role) (kind : Kind) (number : ℕ) (before : List Entry) 
     → slice_get (places_from 0 side kind before) number ≡ Some (how_many (is_out kind) given.front)
 place_of side kind number before holds given =
     let out : Entry = Out side kind number given.datagram in
-    let counts : number ≡ how_many (is_out_of side kind) given.front = (holds given.front out given.back given.parts).counts in
+    let counts : number ≡ how_many (is_out_of side kind) given.front = (holds given.front out given.back given.parts).counts ∙ sym (counted (is_out_of side kind) given.front) in
     let long = length-places_from 0 side kind given.front in
     let at : ℕ = 0 + how_many (is_out kind) given.front in
     let rest = places_from (at + bit (is_out kind out)) side kind given.back in
@@ -132,7 +133,7 @@ Verdict before entry (Some rule) = BreaksRule before entry rule
 different : (m n : ℕ) → eqb m n ≡ false → m ≢ n
 different m n h e = grind (arith, nat_tests)
 
-out_verdict : (before : List Entry) (side : Role) (kind : Kind) (number : ℕ) (datagram : List ℕ) (n : ℕ) (b : Bool) → n ≡ how_many (is_out_of side kind) before → eqb number n ≡ b
+out_verdict : (before : List Entry) (side : Role) (kind : Kind) (number : ℕ) (datagram : List ℕ) (n : ℕ) (b : Bool) → n ≡ count_by (is_out_of side kind) before → eqb number n ≡ b
     → Verdict before (Out side kind number datagram) (cond b None (Some 1))
 out_verdict before side kind number datagram n true is test = record { counts = eqb-true number n test ∙ is; names = tt; timely = tt }
 out_verdict before side kind number datagram n false is test = first refl (λ counts. different number n test (counts ∙ sym is))
@@ -152,7 +153,8 @@ late_or_not before side kind number place total true holds all at has test =
     let sum = total_of side kind number before has in
     third refl tt has (λ timely.
     let few = timely has in
-    let long : late < total - place = (let t = test in grind (arith, nat_tests)) in omega (arith, few, long, here, sum, all))
+    let others = counted (is_out kind) has.back in
+    let long : late < total - place = (let t = test in grind (arith, nat_tests)) in omega (arith, few, others, long, here, sum, all))
 late_or_not before side kind number place total false holds all at has test =
     record {
       counts = tt;
@@ -160,7 +162,8 @@ late_or_not before side kind number place total false holds all at has test =
       timely = λ given.
           let here : place ≡ how_many (is_out kind) given.front = same_place place _ (sym at ∙ place_of side kind number before holds given) in
           let sum = total_of side kind number before given in
-          let short : total - place ≤ late = (let t = test in grind (arith, nat_tests)) in omega (arith, short, here, sum, all);
+          let others = counted (is_out kind) given.back in
+          let short : total - place ≤ late = (let t = test in grind (arith, nat_tests)) in omega (arith, short, others, here, sum, all);
     }
 
 in_verdict : (before : List Entry) (side : Role) (kind : Kind) (number total : ℕ) (o : Option ℕ) → NumbersHold before → total ≡ how_many (is_out kind) before
@@ -185,7 +188,7 @@ verdict before (Main s bytes) holds = keeps_all before (Main s bytes) tt tt tt
 verdict before (Word s k id) holds = keeps_all before (Word s k id) tt tt tt
 verdict before (Out side kind number datagram) holds =
     out_verdict before side kind number datagram (length (places (given_by before) side kind)) (eqb number (length (places (given_by before) side kind)))
-    (ap length (places_by before side kind) ∙ length-places_from 0 side kind before) refl
+    (ap length (places_by before side kind) ∙ length-places_from 0 side kind before ∙ counted (is_out_of side kind) before) refl
 verdict before (In side kind number) holds =
     in_verdict before side kind number (given_of (given_by before) kind) (slice_get (places (given_by before) side kind) number) holds
     (given_of_by before kind) (ap (λ l. slice_get l number) (sym (places_by before side kind)))

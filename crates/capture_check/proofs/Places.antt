@@ -1,13 +1,30 @@
 -- The places of the datagrams that were given, and the entries that gave them.
-use Rattle.std.proofs.Common.{◌≡◌, ℕ, ◌+◌, Bool, true, false, List, [], ◌∷◌, ◌++◌, length, refl, sym, ap, ◌∙◌, append_assoc, append-nil, length-append, arith}
+use Rattle.std.proofs.Common.{◌≡◌, ℕ, ◌+◌, Bool, true, false, cond, List, [], ◌∷◌, ◌++◌, length, refl, sym, ap, ◌∙◌, append_assoc, append-nil, length-append, arith}
+use Rattle.std.proofs.lemmas.List.Sums.{sum_by-cons}
+use Rattle.std.specs.List.{count_by}
 use Rattle.mt_base.specs.declared.kinds.Role.{Role}
 use Rattle.mt_base.specs.declared.kinds.Role.TheVariants.{Server, Client}
 use Rattle.mt_base.specs.declared.kinds.Kind.{Kind}
 use Rattle.mt_base.specs.declared.kinds.Kind.TheVariants.{Reliable, Lossy}
 use Rattle.capture_check.specs.declared.entry.Entry.{Entry}
 use Rattle.capture_check.specs.declared.entry.Entry.TheVariants.{Issue, Open, Sent, Got, Main, Word, Out, In}
-use Rattle.capture_check.specs.Rules.{is_out, is_out_of, bit, how_many}
+use Rattle.capture_check.specs.Rules.{is_out, is_out_of}
 use Rattle.capture_check.specs.GivenSoFar.{Given, places, given_of, with_entry, no_datagrams}
+
+-- ---- how many entries pass a test
+
+abbrev pub bit : Bool → ℕ
+bit b = cond b 1 0
+
+abbrev pub how_many : (Entry → Bool) → List Entry → ℕ
+how_many test [] = 0
+how_many test (entry ∷ rest) = bit (test entry) + how_many test rest
+
+pub counted : (test : Entry → Bool) (xs : List Entry) → how_many test xs ≡ count_by test xs
+counted test [] = refl
+counted test (x ∷ xs) = ap (λ n. bit (test x) + n) (counted test xs) ∙ sym (sum_by-cons (λ e. bit (test e)) x xs)
+
+-- ---- places
 
 -- a place, if an entry has one
 abbrev pub one : Bool → ℕ → List ℕ

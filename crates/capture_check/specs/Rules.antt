@@ -1,6 +1,7 @@
 -- The rules of a capture that speak of the numbers of datagrams, and what breaks them. Each is
 -- judged at an entry, from it and the entries before it.
-use Rattle.std.specs.Prelude.{◌≡◌, ℕ, ◌+◌, ◌<◌, ◌&&◌, Bool, true, false, List, [], ◌∷◌, ◌++◌, length}
+use Rattle.std.specs.Prelude.{◌≡◌, ℕ, ◌+◌, ◌<◌, ◌&&◌, Bool, true, false, List, ◌∷◌, ◌++◌, length}
+use Rattle.std.specs.List.{count_by}
 use Rattle.mt_base.specs.declared.kinds.Role.{Role}
 use Rattle.mt_base.specs.declared.kinds.Role.TheVariants.{Server, Client}
 use Rattle.mt_base.specs.declared.kinds.Kind.{Kind}
@@ -32,15 +33,6 @@ abbrev pub is_out_of : Role → Kind → Entry → Bool
 is_out_of side kind (Out s k number datagram) = same_side side s && same_kind kind k
 is_out_of side kind other = false
 
--- how many entries pass a test
-abbrev pub bit : Bool → ℕ
-bit true = 1
-bit false = 0
-
-abbrev pub how_many : (Entry → Bool) → List Entry → ℕ
-how_many test [] = 0
-how_many test (entry ∷ rest) = bit (test entry) + how_many test rest
-
 -- an `out` of this side, kind and number stands among entries: those before it, and those behind it
 pub record HasOut (side : Role) (kind : Kind) (number : ℕ) (entries : List Entry) : Type 0 where
   pub front : List Entry
@@ -55,7 +47,7 @@ late = 1024
 
 -- Rule 1: the numbers of a side's `out` entries of a kind are 0, 1, 2 and so on.
 abbrev pub CountsUp : List Entry → Entry → Type 0
-CountsUp before (Out side kind number datagram) = number ≡ how_many (is_out_of side kind) before
+CountsUp before (Out side kind number datagram) = number ≡ count_by (is_out_of side kind) before
 CountsUp before other = Unit {0}
 
 -- Rule 2: an `in` names an earlier `out`.
@@ -67,7 +59,7 @@ NamesOut before other = Unit {0}
 -- `out` that it names.
 abbrev pub IsTimely : List Entry → Entry → Type 0
 IsTimely before (In side kind number) =
-    (given : HasOut side kind number before) → how_many (is_out kind) given.back < late
+    (given : HasOut side kind number before) → count_by (is_out kind) given.back < late
 IsTimely before other = Unit {0}
 
 -- an entry keeps the three rules
