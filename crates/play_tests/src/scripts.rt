@@ -1,7 +1,7 @@
 use mt_base::{Kind, Role};
 use mt_script::{
-    Event, ScriptRefusal, Text, Words, count_lines, cut_into_lines, cut_line, events_read, hex_bytes,
-    one_answer, one_meaning, one_spelling, read_script,
+    Event, LineFault, ScriptRefusal, Text, Words, count_lines, cut_into_lines, cut_line,
+    events_read, hex_bytes, one_answer, one_meaning, one_spelling, read_script,
 };
 use std::test::*;
 
