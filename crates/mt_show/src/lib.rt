@@ -22,6 +22,3 @@ mod whole;
 pub use laws::one_output;
 pub use refusal::ShowRefusal;
 pub use whole::show;
-
-#[cfg(test)]
-mod tests;

@@ -20,6 +20,3 @@ pub use laws::{all_arrives, net_is_safe, plays_safely, stream_is_read};
 pub use mt_script::{Event, Line, Script, ScriptRefusal, Text, read_script};
 pub use refusal::{OpenRefusal, Refused, SendRefusal, StepRefusal};
 pub use world::World;
-
-#[cfg(test)]
-mod tests;

@@ -1,4 +1,7 @@
-use super::*;
+use mt_world::{
+    OpenRefusal, Refused, SendRefusal, StepRefusal, Text, World, all_arrives, net_is_safe,
+    plays_safely, read_script, stream_is_read,
+};
 use std::alloc::{AllocError, Global};
 use std::test::*;
 

@@ -1,4 +1,4 @@
-use super::*;
+use mt_show::{ShowRefusal, one_output, show};
 use std::test::*;
 
 #[test]
