@@ -22,8 +22,3 @@ pub use joined::{first_links_join, pulled_was_given};
 pub use keeps::first_links_keep;
 pub use laws::{first_layout_is_read, one_part_goes_over};
 pub use link::Udp1Core;
-
-#[cfg(test)]
-mod law_tests;
-#[cfg(test)]
-mod tests;

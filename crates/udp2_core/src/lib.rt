@@ -22,8 +22,3 @@ pub use joined::{pulled_was_given, second_links_join};
 pub use keeps::second_links_keep;
 pub use laws::{one_part_goes_over, second_layout_is_read};
 pub use link::Udp2Core;
-
-#[cfg(test)]
-mod law_tests;
-#[cfg(test)]
-mod tests;

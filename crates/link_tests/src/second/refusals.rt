@@ -1,11 +1,11 @@
 //! What is refused, and what changes nothing.
 
 use super::{PART_1, TELLS_1, goes};
-use crate::Udp2Core;
 use carrier::{GiveRefusal, LinkState, Reason, Refusal2};
 use link_net::{Step, play};
 use mt_base::Short;
 use std::test::*;
+use udp2_core::Udp2Core;
 
 /// A forged telling settles nothing.
 const A_FORGED_TELLING_SETTLES_NOTHING: [Step<'static>; 8] = [

@@ -1,10 +1,10 @@
 //! What is refused, and what changes nothing.
 
 use super::{PART_2, TELLS_2, goes};
-use crate::Udp1Core;
 use carrier::{GiveRefusal, LinkState, Reason, Refusal1};
 use link_net::{Step, play};
 use std::test::*;
+use udp1_core::Udp1Core;
 
 /// A forged telling settles nothing.
 const A_FORGED_TELLING_SETTLES_NOTHING: [Step<'static>; 8] = [

@@ -1,10 +1,10 @@
 //! Whatever the network does to the datagrams, the bytes arrive.
 
 use super::ends;
-use crate::Udp2Core;
 use carrier::{Carrier, LinkState};
 use link_net::{ALL_LOST, Story, carries, stories};
 use std::test::*;
+use udp2_core::Udp2Core;
 
 #[test]
 fn sixteen_parts_are_told_by_one_acknowledgement(rt: HostRuntime) -> Result<(), Fail> {

@@ -1,10 +1,10 @@
 //! What is told of what was received, and when.
 
 use super::{PART_2, TELLS_2, goes};
-use crate::Udp1Core;
 use carrier::{Carrier, Took};
 use link_net::{Step, play};
 use std::test::*;
+use udp1_core::Udp1Core;
 
 /// The part 3 of two bytes, and the same of the part 4.
 const PART_3: [u8; 18] = [

@@ -1,15 +1,16 @@
 //! Stories of one end, and of two.
 
 mod arrival;
+mod laws;
 mod refusals;
 mod tellings;
 mod timer;
 
-use super::*;
 use link_net::{Ending, Step, Story, play};
 use mt_base::NoMemory;
 use std::alloc::Global;
 use std::test::*;
+use udp2_core::{Udp2Core, one_part_goes_over, second_layout_is_read};
 
 /// The part 1 of two bytes, as the transmission 1.
 const PART_1: [u8; 9] = [0x41, 0x04, 0x60, 1, 0, 1, 0, 0xe0, 0x42];

@@ -1,8 +1,8 @@
 //! The laws of links, cited at two machines.
 
-use super::*;
 use mt_base::NoMemory;
 use std::test::*;
+use udp1_core::{Udp1Core, first_links_join, first_links_keep, pulled_was_given};
 
 #[test]
 fn laws_of_links_hold(rt: HostRuntime) -> Result<(), Fail> {

@@ -1,10 +1,10 @@
 //! What is told of what was received, and when.
 
 use super::{PART_1, TELLS_1, goes};
-use crate::Udp2Core;
 use carrier::{Carrier, Took};
 use link_net::{Step, play};
 use std::test::*;
+use udp2_core::Udp2Core;
 
 /// The part 2 of two bytes, and the same of the part 3, each with the number of its transmission.
 const PART_2: [u8; 9] = [0x43, 0x04, 0x60, 2, 0, 2, 0, 0xe0, 0x44];

@@ -1,8 +1,8 @@
 //! The laws of links, cited at two machines.
 
-use super::*;
 use mt_base::NoMemory;
 use std::test::*;
+use udp2_core::{Udp2Core, pulled_was_given, second_links_join, second_links_keep};
 
 #[test]
 fn laws_of_links_hold(rt: HostRuntime) -> Result<(), NoMemory> {

@@ -3,15 +3,16 @@
 ghost use Rattle.std.specs.Prelude.{◌≡◌, ◌⊎◌};
 
 mod arrival;
+mod laws;
 mod refusals;
 mod tellings;
 mod timer;
 
-use super::*;
 use link_net::{Ending, Step, Story, play};
 use mt_base::NoMemory;
 use std::alloc::Global;
 use std::test::*;
+use udp1_core::{Udp1Core, first_layout_is_read, one_part_goes_over};
 
 /// The part 2 of two bytes.
 const PART_2: [u8; 18] = [
