@@ -1,5 +1,5 @@
 -- A server that creates a channel stands for one act more.
-use Rattle.std.proofs.Common.{◌≡◌, ◌≢◌, ◌==◌, ℕ, ◌+◌, ◌≤◌, ◌<◌, Bool, true, false, cond, not, ◌||◌, nat_eq, nat_lt, List, [], ◌∷◌, ◌++◌, length, length-append, Option, Some, None, is_some, Result, Ok, Err, OnOk, is_err, refl, sym, ap, subst, ◌∙◌, arith, eqb, eqb-true}
+use Rattle.std.proofs.Common.{◌≡◌, ℕ, ◌+◌, ◌≤◌, Bool, true, false, cond, not, ◌||◌, nat_eq, nat_lt, List, [], ◌∷◌, ◌++◌, length, length-append, Option, Some, None, is_some, Result, Ok, Err, OnOk, is_err, refl, sym, ap, subst, ◌∙◌, arith, eqb, eqb-true}
 use Rattle.std.specs.Option.{option_or, unwrap_or}
 use Rattle.std.specs.Map.{keys_of, lookup, set_value}
 use Rattle.std.proofs.lemmas.Bool.{ltb-false}
@@ -18,9 +18,8 @@ use Rattle.tunnel_pdus.specs.Value.{Channel, frame_fields}
 use Rattle.soft_sync.specs.Words.{Words, told}
 use Rattle.mt_endpoint.specs.Acts.{Act, Opens, Spoken}
 use Rattle.mt_endpoint.specs.Alone.{EndOfActs}
-use Rattle.mt_endpoint.specs.Channels.{is_known_in, is_open, is_open_in, is_ready, table}
+use Rattle.mt_endpoint.specs.Channels.{is_known_in, is_open_in, is_ready, table}
 use Rattle.mt_endpoint.specs.Orders.{is_among}
-use Rattle.mt_endpoint.specs.Tunnels.{refusal_in}
 use Rattle.mt_endpoint.proofs.Creating.{counted, fresh, rooted}
 use Rattle.mt_endpoint.proofs.Distinct.{most_channels, other_way}
 use Rattle.end_calls.specs.declared.fault.Fault.{Fault}

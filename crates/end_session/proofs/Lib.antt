@@ -1,4 +1,5 @@
 mod Beginnings
+mod BytesHanded
 mod ChannelsOpened
 mod KnownOf
 mod MessagesTaken

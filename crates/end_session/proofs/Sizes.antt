@@ -1,5 +1,5 @@
 -- The bytes of frames and of tunnel PDUs, at most.
-use Rattle.std.proofs.Common.{ℕ, ◌≤◌, List, [], length, length-append, arith}
+use Rattle.std.proofs.Common.{◌≤◌, [], length, length-append, arith}
 use Rattle.mt_base.specs.Writing.{joined}
 use Rattle.tunnel_pdus.specs.Value.{Frame, Request, Response, Channel, FitsFrame, FitsPdu, frame_fields, pdu_fields}
 use Rattle.tunnel_pdus.specs.Value as tunnel

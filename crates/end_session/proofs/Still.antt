@@ -1,5 +1,5 @@
 -- Acts that say nothing of tunnels and words: what is known of these stays as it was.
-use Rattle.std.proofs.Common.{◌≡◌, ℕ, ◌≤◌, Bool, true, false, ◌||◌, List, [], ◌++◌, length, Option, Some, None, refl, sym, ap, ◌∙◌, append-nil}
+use Rattle.std.proofs.Common.{◌≡◌, ℕ, Bool, true, false, ◌||◌, List, [], ◌++◌, length, Option, Some, None, refl, sym, ap, ◌∙◌, append-nil}
 use Rattle.std.specs.Option.{option_or}
 use Rattle.mt_base.specs.declared.kinds.Kind.{Kind}
 use Rattle.mt_base.specs.declared.kinds.Kind.TheVariants.{Reliable, Lossy}
@@ -7,7 +7,7 @@ use Rattle.mt_base.specs.declared.kinds.Role.{Role}
 use Rattle.mt_base.specs.Trace.{Trace, ◌▷◌}
 use Rattle.dvc_channels.specs.Table as channels
 use Rattle.hold_queue.specs.Held as hold
-use Rattle.soft_sync.specs.Exchanges.{Exchange, exchanges}
+use Rattle.soft_sync.specs.Exchanges.{exchanges}
 use Rattle.mt_endpoint.specs.Acts.{Act}
 use Rattle.mt_endpoint.specs.Alone.{EndOfActs}
 use Rattle.mt_endpoint.specs.Channels.{came, is_ready, table, tells_capabilities}
@@ -17,7 +17,7 @@ use Rattle.mt_endpoint.specs.Tunnels.{answer, answer_in, asked, attaches, first_
 use Rattle.end_calls.specs.Refusing.{or_zero, version_in}
 use Rattle.end_session.specs.Known.{known, is_live_in}
 use Rattle.end_session.specs.Outgoing.{Outgoing}
-use Rattle.end_session.specs.Standing.{AreKept, AreTold, AreWords, Knows}
+use Rattle.end_session.specs.Standing.{AreKept, AreTold, Knows}
 use Rattle.end_session.specs.Store.{Store}
 use Rattle.end_session.proofs.KnownOf.{live_is}
 

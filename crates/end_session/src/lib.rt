@@ -1,12 +1,15 @@
-//! The parts of one end of a session that are its own: the bytes of the main stream that wait, how far
-//! a stream was read, and what is known of a tunnel. The end itself, which joins them with channels,
-//! paths, held PDUs and links, is still to come.
+//! One end of a session without its links, as far as it is built: it is made, a server creates channels,
+//! and bytes of the main stream and whole messages are handed out. What it reads, and its tunnels, are
+//! still to come; their parts stand here already.
 //!
-//! Below it stand `end_calls` and `mt_endpoint`, whose definitions the parts follow: a [`MainQueue`] is
-//! the list of the bytes in it, a [`Stream`] is the value under way, and a [`Tunnel`] is what acts have
-//! told of it, by which it is asked for, open, refused or silent ([`a_tunnel_is_what_acts_made`]).
+//! Below it stand `end_calls` and `mt_endpoint`, whose definitions it follows. A [`Session`] stands for the
+//! acts so far (`specs/Standing.antt`): its channels, words, issued requests, tunnels and held PDUs are what
+//! these acts made, and what waits in [`Outgoing`] is what they wrote and was not handed out. Each call says
+//! which act it adds. Of its parts, a [`MainQueue`] and an [`Outlet`] are lists of bytes, a [`Stream`] is the
+//! value under way, and a [`Tunnel`] is what acts have told of it ([`a_tunnel_is_what_acts_made`]).
 #![tactic(auto)]
 
+mod handing;
 mod laws;
 mod opening;
 mod outgoing;

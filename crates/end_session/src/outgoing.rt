@@ -31,7 +31,7 @@ impl Model for Outgoing {
 }
 
 impl Outgoing {
-    ghost use Rattle.std.specs.Prelude.{◌≡◌, ◌+◌, ◌≤◌, ◌++◌, length, IfOk};
+    ghost use Rattle.std.specs.Prelude.{◌≡◌, ◌+◌, ◌≤◌, ◌++◌, length, take, drop, min, IfOk};
     ghost use Rattle.mt_base.specs.Writing.{joined};
     ghost use Rattle.tunnel_pdus.specs.Value.{Channel, Data, FitsFrame, FitsPdu, frame_fields, pdu_fields};
     ghost use Rattle.tunnel_pdus.specs.Views.{frame_of, pdu_of};
@@ -55,6 +55,16 @@ impl Outgoing {
         ensures bound { result ≤ MAIN_QUEUE }
     {
         self.main.len()
+    }
+
+    /// Moves the first bytes of the main stream to the front of `out`, as many as wait and fit, and gives
+    /// their number.
+    pub fn take_main(&mut self, out: &mut [u8]) -> usize
+        ensures count { result ≡ min (length out.old) (length (self.old).main) }
+        ensures bytes { out.new ≡ take result (self.old).main ++ drop result out.old }
+        ensures left { self.new ≡ record self.old { main = drop result (self.old).main } }
+    {
+        self.main.take(out)
     }
 
     /// Writes a frame on the main stream.

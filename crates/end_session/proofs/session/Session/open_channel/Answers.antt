@@ -1,4 +1,4 @@
-use Rattle.std.proofs.Common.{◌≡◌, ℕ, ◌+◌, ◌≤◌, List, length, Option, Some, None, refl, sym, ap, subst, ◌∙◌, arith}
+use Rattle.std.proofs.Common.{ℕ, ◌+◌, List, length, Some, sym, ap, subst, ◌∙◌, arith}
 use Rattle.mt_base.specs.Trace.{Trace, ◌▷◌}
 use Rattle.mt_base.specs.declared.kinds.Role.TheVariants.{Server}
 use Rattle.mt_endpoint.specs.Acts.{Act, Opens}
