@@ -1,0 +1,2 @@
+pub mod CoreView
+pub mod JoinedCores

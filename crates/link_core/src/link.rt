@@ -1,0 +1,241 @@
+//! The link.
+
+ghost use Rattle.std.specs.Prelude.{◌≡◌, ◌+◌, ◌<◌, ◌≤◌, ◌^◌, ◌++◌, [], ℕ, List, None, length, take, drop, IfOk, IfSome, option_map, ◌↔◌, min, OnOk, OnErr};
+ghost use Rattle.mt_base.specs.Trace.{Trace, Start, ◌▷◌};
+ghost use Rattle.mt_windows.specs.ArrivedView.{left_of};
+ghost use Rattle.mt_windows.specs.Sending.{queued};
+ghost use Rattle.mt_windows.specs.SendingView.{limits, queued_of};
+ghost use Rattle.carrier.specs.Due.{IsNextDue};
+ghost use Rattle.carrier.specs.Entries.{Entry, Gave, In, Polled, Pulled, Owed};
+ghost use Rattle.carrier.specs.Law.{Faithful};
+ghost use Rattle.carrier.specs.Sending.{acts};
+ghost use Rattle.carrier.specs.States.{give_answer, written};
+ghost use Rattle.carrier.specs.declared.state.LinkState.TheVariants.{Open, Closed as IsClosed};
+ghost use Rattle.carrier.specs.declared.state.Took.TheVariants.{Ignored};
+ghost use Rattle.carrier.specs.declared.state.Reason.TheVariants as reason;
+ghost use Rattle.link_core.specs.CoreView.{IsVersion, Stands, kind_of, layout_of, link_layout, condition_of};
+
+use crate::layout::LinkLayout;
+use carrier::{Carrier, GiveRefusal, LinkState, Took};
+use mt_base::NoMemory;
+use std::alloc::Global;
+use std::marker::Model;
+use udp1_core::Udp1Core;
+use udp2_core::Udp2Core;
+
+/// The last version whose datagrams have the first layout.
+const VERSION_2: u16 = 0x0002;
+
+/// A reliable link of whatever version, open from the start. It has no socket and no clock. It has
+/// memory for a machine of each layout, so that it can be started in any version; one of them is at
+/// work.
+#[derive(Drop)]
+pub struct LinkCore {
+    layout: LinkLayout,
+    first: Udp1Core,
+    second: Udp2Core,
+}
+
+impl Model for LinkCore {
+    ghost use Rattle.link_core.specs.CoreView.{Core, machine_by};
+
+    ghost Value = { Core };
+
+    ghost view = { λ c. record { kind = c.layout; machine = machine_by c.layout c.first c.second } };
+}
+
+impl LinkCore {
+    /// A link of this version, 0x0001, 0x0002 or 0x0101, between ends with these initial numbers.
+    pub fn new(
+        alloc: Global,
+        own_initial: u32,
+        peer_initial: u32,
+        version: u16,
+    ) -> Result<LinkCore, NoMemory>
+        requires { IsVersion version }
+        ensures stands { IfOk result (λ c. Stands c Start) }
+        ensures layout { IfOk result (λ c. layout_of c ≡
+            link_layout own_initial peer_initial version) }
+        ensures kind { IfOk result (λ c. c.kind ≡ kind_of version) }
+        ensures left { IfOk result (λ c. left_of c.machine.receiver.inbox ≡ []) }
+        ensures queued { IfOk result (λ c. queued_of c.machine.sender.outbox ≡ 0) }
+        ensures open { IfOk result (λ c. condition_of c ≡ Open) }
+    {
+        let layout = LinkLayout::of_version(version);
+        let first = Udp1Core::new(alloc, own_initial, peer_initial, version.min(VERSION_2))?;
+        let second = Udp2Core::new(alloc)?;
+        Ok(LinkCore {
+            layout,
+            first,
+            second,
+        })
+    }
+
+    /// Forgets everything, and is as a new link of this version, 0x0001, 0x0002 or 0x0101. It takes
+    /// no memory.
+    pub fn start(&mut self, own_initial: u32, peer_initial: u32, version: u16)
+        requires { IsVersion version }
+        ensures stands { Stands self.new Start }
+        ensures layout { layout_of self.new ≡ link_layout own_initial peer_initial version }
+        ensures kind { self.new.kind ≡ kind_of version }
+        ensures left { left_of self.new.machine.receiver.inbox ≡ [] }
+        ensures queued { queued_of self.new.machine.sender.outbox ≡ 0 }
+        ensures open { condition_of self.new ≡ Open }
+    {
+        self.layout = LinkLayout::of_version(version);
+        match self.layout {
+            LinkLayout::First => self.first.start(own_initial, peer_initial, version),
+            LinkLayout::Second => self.second.start(),
+        }
+    }
+
+    /// Makes so many tellings more owed.
+    pub fn owe(&mut self, count: u32)
+        ensures trace { (t : Trace Entry) → Stands self.old t → Stands self.new (t ▷ Owed count) }
+        ensures layout { layout_of self.new ≡ layout_of self.old }
+        ensures kind { self.new.kind ≡ self.old.kind }
+        ensures left { left_of self.new.machine.receiver.inbox ≡
+            left_of self.old.machine.receiver.inbox }
+        ensures queued { queued_of self.new.machine.sender.outbox ≡
+            queued_of self.old.machine.sender.outbox }
+        ensures state { condition_of self.new ≡ condition_of self.old }
+    {
+        match self.layout {
+            LinkLayout::First => self.first.owe(count),
+            LinkLayout::Second => self.second.owe(count),
+        }
+    }
+}
+
+impl Carrier for LinkCore {
+    ghost stands = { λ c t. Stands c t };
+
+    ghost law = { λ c t. Faithful (layout_of c) t };
+
+    ghost left = { λ c. left_of c.machine.receiver.inbox };
+
+    ghost load = { λ c. queued_of c.machine.sender.outbox };
+
+    ghost condition = { λ c. condition_of c };
+
+    ghost next = { λ c t m. IsNextDue (layout_of c) t m };
+
+    fn input(&mut self, now: u64, datagram: &[u8]) -> Took
+        requires moment { now < 2 ^ 62 }
+        ensures trace { (t : Trace Entry) → Stands self.old t →
+            Stands self.new (t ▷ In now datagram.now result) }
+        ensures law { (t : Trace Entry) →
+            Faithful (layout_of self.new) t ↔ Faithful (layout_of self.old) t }
+        ensures left { (more : List ℕ)
+            × (left_of self.new.machine.receiver.inbox ≡ left_of self.old.machine.receiver.inbox ++ more) }
+        ensures load { queued_of self.new.machine.sender.outbox ≤
+            queued_of self.old.machine.sender.outbox }
+        ensures stays_closed { (e : ℕ) → condition_of self.old ≡ IsClosed e →
+            (condition_of self.new ≡ IsClosed e) × (result ≡ Ignored reason.LinkClosed) }
+        ensures stays_open { (e : ℕ) → condition_of self.new ≡ IsClosed e →
+            condition_of self.old ≡ IsClosed e }
+        ensures layout { layout_of self.new ≡ layout_of self.old }
+        ensures kind { self.new.kind ≡ self.old.kind }
+    {
+        match self.layout {
+            LinkLayout::First => self.first.input(now, datagram),
+            LinkLayout::Second => self.second.input(now, datagram),
+        }
+    }
+
+    fn poll(&mut self, now: u64, out: &mut [u8; 1232]) -> Option<usize>
+        requires moment { now < 2 ^ 62 }
+        ensures bound { IfSome result (λ n. n ≤ 1232) }
+        ensures trace { (t : Trace Entry) → Stands self.old t →
+            Stands self.new (t ▷ Polled now (option_map (λ n. take n out.new) result)) }
+        ensures rest { drop (written result) out.new ≡ drop (written result) out.old }
+        ensures law { (t : Trace Entry) →
+            Faithful (layout_of self.new) t ↔ Faithful (layout_of self.old) t }
+        ensures left { left_of self.new.machine.receiver.inbox ≡
+            left_of self.old.machine.receiver.inbox }
+        ensures load { queued_of self.new.machine.sender.outbox ≤
+            queued_of self.old.machine.sender.outbox }
+        ensures stays_closed { (e : ℕ) → condition_of self.old ≡ IsClosed e →
+            (condition_of self.new ≡ IsClosed e) × (result ≡ None) }
+        ensures layout { layout_of self.new ≡ layout_of self.old }
+        ensures kind { self.new.kind ≡ self.old.kind }
+    {
+        match self.layout {
+            LinkLayout::First => self.first.poll(now, out),
+            LinkLayout::Second => self.second.poll(now, out),
+        }
+    }
+
+    fn give(&mut self, bytes: &[u8]) -> Result<(), GiveRefusal>
+        ensures answer { result ≡
+            give_answer (condition_of self.old) (queued_of self.old.machine.sender.outbox) (length bytes.now) }
+        ensures trace { OnOk result ((t : Trace Entry) → Stands self.old t →
+            Stands self.new (t ▷ Gave bytes.now)) }
+        ensures law { (t : Trace Entry) →
+            Faithful (layout_of self.new) t ↔ Faithful (layout_of self.old) t }
+        ensures left { left_of self.new.machine.receiver.inbox ≡
+            left_of self.old.machine.receiver.inbox }
+        ensures load { OnOk result (queued_of self.new.machine.sender.outbox ≡
+            queued_of self.old.machine.sender.outbox + length bytes.now) }
+        ensures state { condition_of self.new ≡ condition_of self.old }
+        ensures unchanged { OnErr result (self.new ≡ self.old) }
+        ensures layout { layout_of self.new ≡ layout_of self.old }
+        ensures kind { self.new.kind ≡ self.old.kind }
+    {
+        match self.layout {
+            LinkLayout::First => self.first.give(bytes),
+            LinkLayout::Second => self.second.give(bytes),
+        }
+    }
+
+    fn pull(&mut self, out: &mut [u8]) -> usize
+        ensures count { result ≡
+            min (length out.old) (length (left_of self.old.machine.receiver.inbox)) }
+        ensures bytes { take result out.new ≡
+            take result (left_of self.old.machine.receiver.inbox) }
+        ensures rest { drop result out.new ≡ drop result out.old }
+        ensures left { left_of self.new.machine.receiver.inbox ≡
+            drop result (left_of self.old.machine.receiver.inbox) }
+        ensures trace { (t : Trace Entry) → Stands self.old t →
+            Stands self.new (t ▷ Pulled (length out.old) (take result out.new)) }
+        ensures law { (t : Trace Entry) →
+            Faithful (layout_of self.new) t ↔ Faithful (layout_of self.old) t }
+        ensures load { queued_of self.new.machine.sender.outbox ≡
+            queued_of self.old.machine.sender.outbox }
+        ensures state { condition_of self.new ≡ condition_of self.old }
+        ensures layout { layout_of self.new ≡ layout_of self.old }
+        ensures kind { self.new.kind ≡ self.old.kind }
+    {
+        match self.layout {
+            LinkLayout::First => self.first.pull(out),
+            LinkLayout::Second => self.second.pull(out),
+        }
+    }
+
+    fn queued(&self) -> usize
+        ensures value { result ≡ queued_of self.now.machine.sender.outbox }
+        ensures history { (t : Trace Entry) → Stands self.now t →
+            result ≡ queued limits (acts (layout_of self.now) t) }
+    {
+        match self.layout {
+            LinkLayout::First => self.first.queued(),
+            LinkLayout::Second => self.second.queued(),
+        }
+    }
+
+    fn next_due(&self) -> Option<u64> {
+        match self.layout {
+            LinkLayout::First => self.first.next_due(),
+            LinkLayout::Second => self.second.next_due(),
+        }
+    }
+
+    fn state(&self) -> LinkState {
+        match self.layout {
+            LinkLayout::First => self.first.state(),
+            LinkLayout::Second => self.second.state(),
+        }
+    }
+
+    ghost keeps = { λ c t h. h.faithful };
+}
