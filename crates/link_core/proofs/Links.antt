@@ -3,7 +3,9 @@ use Rattle.std.proofs.Common.{◌≡◌, ℕ, ◌+◌, ◌<◌, ◌≤◌, ◌^�
 use Rattle.mt_base.specs.declared.kinds.Role.{Role}
 use Rattle.mt_base.specs.declared.kinds.Role.TheVariants.{Server, Client}
 use Rattle.mt_base.specs.Trace.{Trace}
+use Rattle.mt_windows.specs.SendingView.{limits}
 use Rattle.mt_windows.specs.declared.limits.TheConstants.{SPAN, TELL, WINDOW}
+use Rattle.carrier.specs.declared.limits.TheConstants.{EXPIRIES}
 use Rattle.carrier.specs.Law.{Faithful}
 use Rattle.carrier.specs.Layout.{Layout}
 use Rattle.carrier.specs.Joined.{Step, half}
@@ -25,6 +27,21 @@ has_room own peer version = by_test (is_second version)
     by_test : (b : Bool) → HasRoom (if b then second_layout else first_link_layout own peer version)
     by_test true = second_has_room
     by_test false = first_has_room own peer version
+
+-- whatever the version, the limits of the windows are the same, and so many expiries are survived
+pub windows_is : (own peer version : ℕ) → (link_layout own peer version).bounds.windows ≡ limits
+windows_is own peer version = by_test (is_second version)
+  where
+    by_test : (b : Bool) → (if b then second_layout else first_link_layout own peer version).bounds.windows ≡ limits
+    by_test true = refl
+    by_test false = refl
+
+pub expiries_is : (own peer version : ℕ) → (link_layout own peer version).bounds.expiries ≡ EXPIRIES
+expiries_is own peer version = by_test (is_second version)
+  where
+    by_test : (b : Bool) → (if b then second_layout else first_link_layout own peer version).bounds.expiries ≡ EXPIRIES
+    by_test true = refl
+    by_test false = refl
 
 -- a version of the first layout has that layout
 pub first_is : (own peer version : ℕ) → is_second version ≡ false → link_layout own peer version ≡ first_link_layout own peer version

@@ -4,7 +4,7 @@ ghost use Rattle.std.specs.Prelude.{◌≡◌};
 ghost use Rattle.link_core.specs.CoreView.{kind_of};
 
 /// The version whose datagrams have the second layout.
-const VERSION_2_0: u16 = 0x0101;
+const VERSION_3: u16 = 0x0101;
 
 /// Which layout the datagrams of a link have.
 #[derive(Clone, Copy, Debug, PartialEq, Eq)]
@@ -20,7 +20,7 @@ impl LinkLayout {
     pub fn of_version(version: u16) -> LinkLayout
         ensures { result ≡ kind_of version }
     {
-        if version == VERSION_2_0 {
+        if version == VERSION_3 {
             LinkLayout::Second
         } else {
             LinkLayout::First

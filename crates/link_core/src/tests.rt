@@ -19,6 +19,7 @@ const PART_1: [u8; 9] = [0x41, 0x04, 0x60, 1, 0, 1, 0, 0xe0, 0x42];
 
 /// Nothing was received, in the first layout and in the second.
 const FIRST_TELLS_NOTHING: [u8; 12] = [0, 0, 0, 1, 0, 0x40, 0, 4, 0, 0, 0, 0];
+
 const SECOND_TELLS_NOTHING: [u8; 10] = [0, 0x01, 0x60, 0, 0, 0, 0, 0xe0, 0, 0];
 
 /// A link sends its bytes at once so, and again after this time.

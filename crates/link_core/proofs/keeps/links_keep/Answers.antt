@@ -1,5 +1,8 @@
+use Rattle.std.proofs.Common.{◌+◌, ◌<◌, ◌≤◌, subst, arith}
+use Rattle.mt_windows.specs.Sending.{lowest_or_next, queued, reach}
+use Rattle.carrier.specs.Sending.{acts}
 use Rattle.link_core.specs.CoreView.{link_layout}
-use Rattle.link_core.proofs.Links.{has_room}
+use Rattle.link_core.proofs.Links.{expiries_is, has_room, windows_is}
 use Rattle.link_core.proofs.keeps.links_keep.Goals as goal
 
 pub returns-clause-asks : goal.returns-clause-asks
@@ -27,21 +30,29 @@ returns-clause-told c own peer version t law =
 
 pub returns-clause-queue : goal.returns-clause-queue
 returns-clause-queue c own peer version t law =
-    c.faithful_links.ensures.queue (link_layout own peer version) t (has_room own peer version) law
+    let layout = link_layout own peer version in
+    subst (λ w. queued w (acts layout t) ≤ w.queue) (windows_is own peer version)
+    (c.faithful_links.ensures.queue layout t (has_room own peer version) law)
 
 pub returns-clause-reach : goal.returns-clause-reach
 returns-clause-reach c own peer version t law =
-    c.faithful_links.ensures.reach (link_layout own peer version) t (has_room own peer version) law
+    let layout = link_layout own peer version in
+    subst (λ w. reach w (acts layout t) ≤ w.span) (windows_is own peer version)
+    (c.faithful_links.ensures.reach layout t (has_room own peer version) law)
 
 pub returns-clause-pulled : goal.returns-clause-pulled
 returns-clause-pulled c own peer version t law = c.faithful_links.ensures.pulled (link_layout own peer version) t law
 
 pub returns-clause-window : goal.returns-clause-window
 returns-clause-window c own peer version t p law less =
-    c.faithful_links.ensures.window (link_layout own peer version) t (has_room own peer version) law p less
+    let layout = link_layout own peer version in
+    subst (λ w. p < lowest_or_next w (acts layout t) + w.window) (windows_is own peer version)
+    (c.faithful_links.ensures.window layout t (has_room own peer version) law p less)
 
 pub returns-clause-expiries : goal.returns-clause-expiries
-returns-clause-expiries c own peer version t = c.links_close.ensures.expiries (link_layout own peer version) t
+returns-clause-expiries c own peer version t =
+    let layout = link_layout own peer version in
+    omega (arith, expiries_is own peer version, c.links_close.ensures.expiries layout t)
 
 pub returns-clause-silent : goal.returns-clause-silent
 returns-clause-silent c own peer version t now is =
