@@ -1,5 +1,5 @@
 -- What a link of whatever version has in common with those of its layout.
-use Rattle.std.proofs.Common.{◌≡◌, ℕ, ◌+◌, ◌<◌, ◌≤◌, ◌^◌, ◌==◌, Bool, true, false, if◌then◌else◌, refl, ap, subst, ◌∙◌}
+use Rattle.std.proofs.Common.{◌≡◌, ℕ, ◌+◌, ◌<◌, ◌≤◌, ◌^◌, Bool, true, false, if◌then◌else◌, refl, ap, subst, ◌∙◌}
 use Rattle.mt_base.specs.declared.kinds.Role.{Role}
 use Rattle.mt_base.specs.declared.kinds.Role.TheVariants.{Server, Client}
 use Rattle.mt_base.specs.Trace.{Trace}
@@ -7,7 +7,6 @@ use Rattle.mt_windows.specs.SendingView.{limits}
 use Rattle.mt_windows.specs.declared.limits.TheConstants.{SPAN, TELL, WINDOW}
 use Rattle.carrier.specs.declared.limits.TheConstants.{EXPIRIES}
 use Rattle.carrier.specs.Law.{Faithful}
-use Rattle.carrier.specs.Layout.{Layout}
 use Rattle.carrier.specs.Joined.{Step, half}
 use Rattle.carrier.specs.Faithful.{HasRoom}
 use Rattle.carrier.specs.TwoLinks.{Margins, Net}
