@@ -14,11 +14,11 @@ use Rattle.carrier.specs.Receiving.{owed as owed_tellings, peer_window}
 use Rattle.carrier.specs.Sending.{acts, timer, expiry, expires, is_over, is_waiting, is_closed}
 use Rattle.carrier.specs.Due.{again, fresh, meant, telling_with, is_pressing, may_send, due, closes as machine_closes, is_due as machine_is_due, IsNextDue as MachineNextDue}
 use Rattle.udp1_packets.specs.Layout.{spelled}
-use Rattle.udp1_core.specs.MachineView.{Stands, condition_of, layout_of}
+use Rattle.link_core.specs.CoreView.{Stands, condition_of, layout_of}
 use Rattle.udp_open.specs.declared.settings.OpenSettings.{OpenSettings}
 use Rattle.udp_open.specs.declared.agreement.Agreement.{Agreement}
 use Rattle.udp_open.specs.Handshake.{agreed, owed, opening_due, opening_meant, closes, is_asking, is_due, is_time, timer as opening_timer, expiries, IsNextDue}
-use Rattle.udp_open.specs.LinkTrace.{has_syn, layout_by, begins_by, copies, tellings, tells, with_entries, machine, due_by}
+use Rattle.udp_open.specs.LinkTrace.{is_of_opening, machine_layout, begins_by, copies, tellings, tells, with_entries, machine, due_by}
 use Rattle.udp_open.specs.LinkView.{Link, StandsLink, is_closed_state, closes_by, is_due_in, IsNextDueIn}
 use Rattle.udp_open.proofs.LinkLemmas.{before}
 use Rattle.udp_open.proofs.LinkSteps.{some_is, closed_same}
@@ -113,7 +113,7 @@ within : (s : OpenSettings) (t m : Trace Entry) (o : Option Agreement) (e : Entr
 within s t m None e h = omega (arith, h, goes_on t e, begins_moment s (agreed s (t ▷ e)) (given t) m)
 within s t m (Some a) (Gave bytes) h = h
 within s t m (Some a) (In now d took) h =
-    either_moment (has_syn d) m (copies s.role took) (In (max (moment t) now) d took ∷ []) (max (moment t) now)
+    either_moment (is_of_opening s a d) m (copies s.role took) (In (max (moment t) now) d took ∷ []) (max (moment t) now)
     (omega (arith, h, copies_moment s.role took m)) (omega (arith, h))
 within s t m (Some a) (Polled now out) h =
     either_moment (nat_lt 0 (owed s t)) m [] (Polled (max (moment t) now) out ∷ []) (max (moment t) now) (omega (arith, h)) (omega (arith, h))
@@ -151,21 +151,21 @@ picks_machine false true k y z h g = cc
 picks_machine false false k y z h g = refl
 
 due_opening : (s : OpenSettings) (t : Trace Entry) (a : Agreement) (at : ℕ) → agreed s t ≡ Some a
-    → is_closed (layout_by s a) (machine s t) ≡ false → nat_lt 0 (owed s t) ≡ true → is_due_in s t at ≡ is_due s t at
+    → is_closed (machine_layout s a) (machine s t) ≡ false → nat_lt 0 (owed s t) ≡ true → is_due_in s t at ≡ is_due s t at
 due_opening s t a at is going owes =
     let k = max (moment t) at in
     ap (λ o. is_some (due_by s t o at) || closes_by s t o k) is
-    ∙ picks_opening (is_closed (layout_by s a) (machine s t)) (nat_lt 0 (owed s t)) (machine_closes (layout_by s a) (machine s t) k) (opening_due s t at) (due (layout_by s a) (machine s t) k) going owes
+    ∙ picks_opening (is_closed (machine_layout s a) (machine s t)) (nat_lt 0 (owed s t)) (machine_closes (machine_layout s a) (machine s t) k) (opening_due s t at) (due (machine_layout s a) (machine s t) k) going owes
     ∙ mapped spelled (opening_meant s t at)
     ∙ sym (or_false (is_some (opening_meant s t at)) (closes s t k)
     (ap (λ o. is_asking s.role o && (is_time (opening_timer s t) k && nat_le 16 (expiries s t))) is ∙ not_asking s.role a (is_time (opening_timer s t) k && nat_le 16 (expiries s t))))
 
 due_machine : (s : OpenSettings) (t : Trace Entry) (a : Agreement) (at : ℕ) → agreed s t ≡ Some a
-    → is_closed (layout_by s a) (machine s t) ≡ false → nat_lt 0 (owed s t) ≡ false
-    → is_due_in s t at ≡ machine_is_due (layout_by s a) (machine s t) (max (moment t) at)
+    → is_closed (machine_layout s a) (machine s t) ≡ false → nat_lt 0 (owed s t) ≡ false
+    → is_due_in s t at ≡ machine_is_due (machine_layout s a) (machine s t) (max (moment t) at)
 due_machine s t a at is going none =
     let k = max (moment t) at in
-    let l = layout_by s a in
+    let l = machine_layout s a in
     let u = machine s t in
     let early = moment_within s t in
     let same : max (moment u) k ≡ k = omega (arith, early) in
@@ -189,7 +189,7 @@ next_owed l t r met owes going is h =
     let some = some_is (l.opening).agreement met in
     let a = some.0 in
     let b = before l t a some.1 h in
-    let closed = sym (closed_same l.core (machine s t) (layout_by s a) b.law b.stands) ∙ going in
+    let closed = sym (closed_same l.core (machine s t) (machine_layout s a) b.law b.stands) ∙ going in
     next_opening s t r (λ at. due_opening s t a at b.agreed_is closed (ap (nat_lt 0) (sym (h.follows).owed_is) ∙ owes)) is
 
 -- what is due next where none is owed: by the machine
@@ -207,9 +207,9 @@ machines l t met none going h =
     let some = some_is (l.opening).agreement met in
     let a = some.0 in
     let b = before l t a some.1 h in
-    let closed = sym (closed_same l.core (machine s t) (layout_by s a) b.law b.stands) ∙ going in
+    let closed = sym (closed_same l.core (machine s t) (machine_layout s a) b.law b.stands) ∙ going in
     record {
-      layout = layout_by s a;
+      layout = machine_layout s a;
       trace = machine s t;
       within = moment_within s t;
       same = λ at. due_machine s t a at b.agreed_is closed (ap (nat_lt 0) (sym (h.follows).owed_is) ∙ none);
@@ -239,3 +239,26 @@ next_later l t d met none going is h =
       m.same (max d k) ∙ due_grows m.layout m.trace d (max k (max d k)) (omega arith) next.1,
       λ at above below. m.same at ∙ next.2 (max k at) (omega (arith, above, early)) (omega (arith, above, below)),
     )
+
+-- a closed link sends nothing any more
+closed_silent : (over owes may last : Bool) (x y : Option (List ℕ)) → over ≡ true
+    → (is_some (if over then None else (if owes then x else y)) || (not owes && ((not over && may) && last))) ≡ false
+closed_silent true true may last x y h = refl
+closed_silent true false may last x y h = refl
+closed_silent false owes may last x y h = cc
+
+pub next_closed : (l : Link) (t : Trace Entry) → IsSome (l.opening).agreement → is_closed_state (condition_of l.core) ≡ true
+    → StandsLink l t → IsNextDueIn (l.opening).settings t None
+next_closed l t met closed h =
+    let s = (l.opening).settings in
+    let some = some_is (l.opening).agreement met in
+    let a = some.0 in
+    let b = before l t a some.1 h in
+    let layout = machine_layout s a in
+    let m = machine s t in
+    let over : is_closed layout m ≡ true = sym (closed_same l.core m layout b.law b.stands) ∙ closed in
+    λ at. (
+    let k = max (moment t) at in
+    ap (λ o. is_some (due_by s t o at) || closes_by s t o k) b.agreed_is
+    ∙ closed_silent (is_closed layout m) (nat_lt 0 (owed s t)) (is_waiting layout (acts layout m) && nat_le (expiry layout (timer layout m)) k)
+    (nat_le layout.bounds.expiries (timer layout m).expiries) (opening_due s t at) (due layout m k) over)

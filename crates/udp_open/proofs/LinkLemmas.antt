@@ -1,5 +1,5 @@
 -- Why a link stands for its trace: what its calls do to what was agreed on, and to its machine.
-use Rattle.std.proofs.Common.{◌≡◌, ◌⊎◌, inl, inr, ℕ, ◌%◌, ◌≤◌, ◌==◌, Bool, true, false, ◌&&◌, nat_lt, max, List, length, get_or, if◌then◌else◌, Option, Some, None, Result, Ok, Err, refl, sym, ap, ◌∙◌, subst, arith}
+use Rattle.std.proofs.Common.{◌≡◌, ◌⊎◌, inl, inr, ℕ, ◌%◌, ◌≤◌, ◌==◌, Bool, true, false, ◌&&◌, nat_lt, max, List, length, get_or, if◌then◌else◌, Option, Some, None, Result, Ok, Err, is_ok, refl, sym, ap, ◌∙◌, subst, arith}
 use Rattle.mt_base.proofs.Meanings.{was_spelled}
 use Rattle.mt_base.specs.declared.kinds.Role.{Role}
 use Rattle.mt_base.specs.declared.kinds.Role.TheVariants.{Server, Client}
@@ -10,7 +10,7 @@ use Rattle.carrier.specs.declared.state.Reason.{Reason}
 use Rattle.carrier.specs.declared.state.Reason.TheVariants as reason
 use Rattle.carrier.specs.declared.state.Took.{Took}
 use Rattle.carrier.specs.declared.state.Took.TheVariants.{Ignored}
-use Rattle.carrier.specs.Entries.{Entry, In, Polled, Owed, moment, given}
+use Rattle.carrier.specs.Entries.{Entry, Gave, In, Polled, Pulled, Owed, Posted, Next, moment, given}
 use Rattle.carrier.specs.Law.{IsBytes, Faithful}
 use Rattle.carrier.specs.Receiving.{has_effect}
 use Rattle.udp1_packets.specs.Layout.{Spells}
@@ -18,15 +18,15 @@ use Rattle.udp1_packets.specs.Reading.{packet_at}
 use Rattle.udp1_packets.specs.Value.{Body, SynBody, DataBody, FecBody, BareBody, Packet}
 use Rattle.udp1_packets.proofs.ByteLemmas.{opens_with}
 use Rattle.udp1_packets.proofs.Theorems.{meaning}
-use Rattle.udp1_core.specs.MachineView.{Machine, Stands, layout_of}
+use Rattle.link_core.specs.CoreView.{Core, Stands, is_second, layout_of}
 use Rattle.udp_open.specs.declared.settings.OpenSettings.{OpenSettings}
 use Rattle.udp_open.specs.declared.agreement.Agreement.{Agreement}
 use Rattle.udp_open.specs.declared.timer.Timer.{Timer}
 use Rattle.udp_open.specs.Agreeing.{is_syn, shows_syn, is_opening}
-use Rattle.udp_open.specs.Handshake.{shown, packet_or, hears, agreed, owed, owed_by, timer, timer_by, is_asking, is_time, started}
-use Rattle.udp_open.specs.LinkTrace.{has_syn, layout_by, begins, begins_by, reaches, tells, with_entries, machine, tellings, KeepsMachine, Answers, LinkFaithful}
+use Rattle.udp_open.specs.Handshake.{shown, packet_or, hears, agreed, agreed_by, owed, owed_by, timer, timer_by, is_asking, is_time, started}
+use Rattle.udp_open.specs.LinkTrace.{has_syn, is_of_opening, is_syn_copy, machine_layout, begins, begins_by, reaches, tells, with_entries, machine, tellings, KeepsMachine, Answers, LinkFaithful}
 use Rattle.udp_open.specs.LinkView.{Link, StandsBy, StandsLink}
-use Rattle.udp_open.specs.OpeningView.{Handshake, Follows, IsFirst, IsOffered}
+use Rattle.udp_open.specs.OpeningView.{Handshake, Follows}
 use Rattle.udp_open.proofs.Heard.{Deaf, deaf, deaf_same}
 use Rattle.udp_open.proofs.Staying.{agreed_stays}
 
@@ -58,7 +58,7 @@ machine_begins s t e a before after =
 
 -- each call afterwards tells it what reaches it
 pub machine_open : (s : OpenSettings) (t : Trace Entry) (e : Entry) (a : Agreement) → agreed s t ≡ Some a
-    → machine s (t ▷ e) ≡ with_entries (machine s t) (reaches s t e)
+    → machine s (t ▷ e) ≡ with_entries (machine s t) (reaches s a t e)
 machine_open s t e a h = ap (λ o. with_entries (machine s t) (tells s t o e)) h
 
 -- what is given before that are bytes, and stays within the queue
@@ -104,26 +104,80 @@ deaf_owed true role count (Ok a) h = absurd h
 deaf_owed true Server count (Err why) h = refl
 deaf_owed true Client count (Err why) h = refl
 
+client_owed : (b : Bool) (role : Role) (count : ℕ) (r : Result Agreement Reason) → role ≡ Client
+    → (if b then owed_by role count r else count) ≡ count
+client_owed false role count r h = refl
+client_owed true Server count r h = cc
+client_owed true Client count r h = refl
+
 deaf_timer : (b : Bool) (o : Option Timer) (r : Result Agreement Reason) → Deaf r → (if b then timer_by o r else o) ≡ o
 deaf_timer false o r h = refl
 deaf_timer true o (Ok a) h = absurd h
 deaf_timer true o (Err why) h = refl
 
+not_asking : (role : Role) (a : Agreement) (b : Bool) (one two : Option Timer)
+    → (if is_asking role (Some a) && b then one else two) ≡ two
+not_asking Server a b one two = refl
+not_asking Client a b one two = refl
+
+-- once the ends agreed no timer of the opening runs
+first_heard : (b : Bool) (o : Option Timer) (r : Result Agreement Reason) (a : Agreement)
+    → (if b then agreed_by None r else None) ≡ Some a → (if b then timer_by o r else o) ≡ None
+first_heard true o (Ok c) a h = refl
+first_heard true o (Err why) a h = cc
+first_heard false o r a h = cc
+
+still_none : (b : Bool) (o : Option Timer) (r : Result Agreement Reason) → o ≡ None → (if b then timer_by o r else o) ≡ None
+still_none true o (Ok a) h = refl
+still_none true o (Err why) h = h
+still_none false o r h = h
+
+timer_done : (s : OpenSettings) (t : Trace Entry) (a : Agreement) → agreed s t ≡ Some a → timer s t ≡ None
+timer_done s Start a h = cc
+timer_done s (t ▷ Gave bytes) a h = timer_done s t a h
+timer_done s (t ▷ In now d took) a h = by_agreement (agreed s t) refl h (λ b is. timer_done s t b is)
+  where
+    r : Option Agreement → Result Agreement Reason
+    r o = hears s o (shown d)
+
+    by_agreement : (o : Option Agreement) → agreed s t ≡ o → (if has_effect took then agreed_by o (r o) else o) ≡ Some a
+        → ((b : Agreement) → agreed s t ≡ Some b → timer s t ≡ None)
+        → (if has_effect took then timer_by (timer s t) (r (agreed s t)) else timer s t) ≡ None
+    by_agreement None is now_is old =
+        ap (λ x. if has_effect took then timer_by (timer s t) (r x) else timer s t) is
+        ∙ first_heard (has_effect took) (timer s t) (r None) a now_is
+    by_agreement (Some b) is now_is old = still_none (has_effect took) (timer s t) (r (agreed s t)) (old b is)
+timer_done s (t ▷ Polled now out) a h =
+    let at = max (moment t) now in
+    ap (λ x. if is_asking s.role x && is_time (timer s t) at then Some (started (timer s t) at) else timer s t) h
+    ∙ not_asking s.role a (is_time (timer s t) at) _ _ ∙ timer_done s t a h
+timer_done s (t ▷ Pulled room bytes) a h = timer_done s t a h
+timer_done s (t ▷ Owed count) a h = timer_done s t a h
+timer_done s (t ▷ Posted bytes) a h = timer_done s t a h
+timer_done s (t ▷ Next bytes) a h = timer_done s t a h
+
 -- ---- what the opening of an open link makes of the calls that it doesn't hear of
 
--- a datagram that opens nothing
-pub passes_in : (o : Handshake) (t : Trace Entry) (now : ℕ) (d : List ℕ) (took : Took) → IsBytes d → has_syn d ≡ false
+-- a datagram in which nothing is heard
+passes_deaf : (o : Handshake) (t : Trace Entry) (now : ℕ) (d : List ℕ) (took : Took)
+    → Deaf (hears o.settings (agreed o.settings t) (shown d))
     → Follows o t → Follows (record o { moment = max o.moment now }) (t ▷ In now d took)
-passes_in o t now d took good plain h =
+passes_deaf o t now d took unheard h =
     let s = o.settings in
     let r = hears s (agreed s t) (shown d) in
-    let unheard = deaf s (agreed s t) (shown d) (no_opening d good plain) in
     record {
       moment_is = ap (λ m. max m now) h.moment_is;
       agreement_is = h.agreement_is ∙ sym (deaf_same (has_effect took) (agreed s t) r unheard);
       owed_is = h.owed_is ∙ sym (deaf_owed (has_effect took) s.role (owed s t) r unheard);
       timer_is = h.timer_is ∙ sym (deaf_timer (has_effect took) (timer s t) r unheard);
     }
+
+-- a datagram that opens nothing
+pub passes_in : (o : Handshake) (t : Trace Entry) (now : ℕ) (d : List ℕ) (took : Took) → IsBytes d → has_syn d ≡ false
+    → Follows o t → Follows (record o { moment = max o.moment now }) (t ▷ In now d took)
+passes_in o t now d took good plain h =
+    let s = o.settings in
+    passes_deaf o t now d took (deaf s (agreed s t) (shown d) (no_opening d good plain)) h
 
 -- a datagram that a closed link ignored
 pub ignores_in : (o : Handshake) (t : Trace Entry) (now : ℕ) (d : List ℕ)
@@ -135,10 +189,41 @@ ignores_in o t now d h = record {
   timer_is = h.timer_is;
 }
 
-not_asking : (role : Role) (a : Agreement) (b : Bool) (one two : Option Timer)
-    → (if is_asking role (Some a) && b then one else two) ≡ two
-not_asking Server a b one two = refl
-not_asking Client a b one two = refl
+-- a datagram that is none of its opening
+pub passes_open : (o : Handshake) (t : Trace Entry) (now : ℕ) (d : List ℕ) (took : Took) (a : Agreement) → IsBytes d
+    → o.agreement ≡ Some a → is_of_opening o.settings a d ≡ false
+    → Follows o t → Follows (record o { moment = max o.moment now }) (t ▷ In now d took)
+passes_open o t now d took a good is none h = by_version (is_second a.version) none
+  where
+    s : OpenSettings
+    s = o.settings
+
+    r : Result Agreement Reason
+    r = hears s (agreed s t) (shown d)
+
+    at : agreed s t ≡ Some a
+    at = sym h.agreement_is ∙ is
+
+    deaf_by : (x : Result Agreement Reason) → is_ok x ≡ false → Deaf x
+    deaf_by (Ok c) e = cc
+    deaf_by (Err why) e = tt
+
+    -- a server hears nothing in it, and a client has done with its opening
+    by_role : (role : Role) → s.role ≡ role → is_syn_copy role (hears s (Some a) (shown d)) ≡ false
+        → Follows (record o { moment = max o.moment now }) (t ▷ In now d took)
+    by_role Server at_server none =
+        passes_deaf o t now d took (subst (λ x. Deaf (hears s x (shown d))) (sym at) (deaf_by (hears s (Some a) (shown d)) none)) h
+    by_role Client at_client none = record {
+      moment_is = ap (λ m. max m now) h.moment_is;
+      agreement_is = is ∙ sym (agreed_stays s t (In now d took) a at);
+      owed_is = h.owed_is ∙ sym (client_owed (has_effect took) s.role (owed s t) r at_client);
+      timer_is = h.timer_is ∙ timer_done s t a at ∙ sym (timer_done s (t ▷ In now d took) a (agreed_stays s t (In now d took) a at));
+    }
+
+    by_version : (b : Bool) → (if b then is_syn_copy s.role (hears s (Some a) (shown d)) else has_syn d) ≡ false
+        → Follows (record o { moment = max o.moment now }) (t ▷ In now d took)
+    by_version true none = by_role s.role refl none
+    by_version false none = passes_in o t now d took good none h
 
 -- a poll that sends no answer to an opening
 pub passes_poll : (o : Handshake) (t : Trace Entry) (now : ℕ) (out : Option (List ℕ)) (a : Agreement) → o.agreement ≡ Some a
@@ -163,15 +248,15 @@ passes_poll o t now out a is same h =
 pub opened : (l : Link) (s : OpenSettings) (t : Trace Entry) (e : Entry) (a : Agreement) → (l.opening).settings ≡ s
     → Follows l.opening (t ▷ e) → agreed s (t ▷ e) ≡ Some a
     → Answers s t e → LinkFaithful s t
-    → Stands l.core (machine s (t ▷ e)) → layout_of l.core ≡ layout_by s a
+    → Stands l.core (machine s (t ▷ e)) → layout_of l.core ≡ machine_layout s a
     → StandsLink l (t ▷ e)
 opened l s t e a same follows is answers before stands law =
-    let keeps : Faithful (layout_by s a) (machine s (t ▷ e)) = subst (λ y. Faithful y (machine s (t ▷ e))) law stands.faithful in
+    let keeps : Faithful (machine_layout s a) (machine s (t ▷ e)) = subst (λ y. Faithful y (machine s (t ▷ e))) law stands.faithful in
     let kept : KeepsMachine s (agreed s (t ▷ e)) (t ▷ e) = subst (λ o. KeepsMachine s o (t ▷ e)) (sym is) keeps in
     record {
       follows = follows;
       machine_is = subst (λ o. StandsBy l (t ▷ e) o) (sym (ap (λ x. agreed x (t ▷ e)) same ∙ is))
-          (subst (λ x. Stands l.core (machine x (t ▷ e)) × (layout_of l.core ≡ layout_by x a)) (sym same) (stands, law));
+          (subst (λ x. Stands l.core (machine x (t ▷ e)) × (layout_of l.core ≡ machine_layout x a)) (sym same) (stands, law));
       faithful = subst (λ x. LinkFaithful x (t ▷ e)) (sym same) (answers, kept, before);
     }
 
@@ -179,7 +264,7 @@ opened l s t e a same follows is answers before stands law =
 pub record Before (l : Link) (s : OpenSettings) (t : Trace Entry) (a : Agreement) : Type 0 where
   pub agreed_is : agreed s t ≡ Some a
   pub stands : Stands l.core (machine s t)
-  pub law : layout_of l.core ≡ layout_by s a
+  pub law : layout_of l.core ≡ machine_layout s a
   pub faithful : LinkFaithful s t
 
 pub before : (l : Link) (t : Trace Entry) (a : Agreement) → (l.opening).agreement ≡ Some a → StandsLink l t
@@ -205,20 +290,10 @@ waits l s t e same follows is answers before early short good =
 
 -- ---- tellings that an opening makes owed
 
-pub owes_two : (role : Role) (m : Machine) (t : Trace Entry) → role ≡ Client → Stands m (t ▷ Owed 2)
+pub owes_two : (role : Role) (m : Core) (t : Trace Entry) → role ≡ Client → Stands m (t ▷ Owed 2)
     → Stands m (with_entries t (tellings role))
 owes_two role m t is h = subst (λ r. Stands m (with_entries t (tellings r))) (sym is) h
 
-pub owes_none : (role : Role) (m : Machine) (t : Trace Entry) → role ≡ Server → Stands m t
+pub owes_none : (role : Role) (m : Core) (t : Trace Entry) → role ≡ Server → Stands m t
     → Stands m (with_entries t (tellings role))
 owes_none role m t is h = subst (λ r. Stands m (with_entries t (tellings r))) (sym is) h
-
--- a version below one of the first layout has that layout too
-pub first_below : (v w : ℕ) → IsOffered v → IsFirst w → v ≤ w → IsFirst v
-first_below v w (inl one) first le = inl one
-first_below v w (inr (inl two)) first le = inr two
-first_below v w (inr (inr three)) first le = absurd (too_high first)
-  where
-    too_high : IsFirst w → ⊥
-    too_high (inl one) = omega (arith, three, one, le)
-    too_high (inr two) = omega (arith, three, two, le)

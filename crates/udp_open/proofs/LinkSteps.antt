@@ -13,16 +13,19 @@ use Rattle.carrier.specs.Due.{due}
 use Rattle.carrier.specs.Entries.{Entry, Gave, In, Polled, Pulled, moment, given}
 use Rattle.carrier.specs.Layout.{Layout, Datagram}
 use Rattle.carrier.specs.Law.{IsBytes, Faithful}
-use Rattle.carrier.specs.Sending.{is_closed}
-use Rattle.udp1_core.specs.MachineView.{Machine, Stands, condition_of, layout_of, link_layout}
+use Rattle.carrier.specs.Sending.{is_closed, timer}
+use Rattle.link_machine.specs.MachineView.{Machine}
+use Rattle.link_core.specs.declared.layout.LinkLayout.{LinkLayout}
+use Rattle.link_core.specs.declared.layout.LinkLayout.TheVariants.{First, Second}
+use Rattle.link_core.specs.CoreView.{layout_by as core_layout, Core, Stands, condition_of, layout_of, link_layout}
 use Rattle.udp_open.specs.declared.settings.OpenSettings.{OpenSettings}
 use Rattle.udp_open.specs.declared.agreement.Agreement.{Agreement}
 use Rattle.udp_open.specs.declared.opening.OpenEnd.TheVariants.{Waiting, Agreed}
 use Rattle.udp_open.specs.Handshake.{agreed, opening_answered, opening_due, owed}
-use Rattle.udp_open.specs.LinkTrace.{has_syn, layout_by, begins, copies, with_entries, machine, answered_by, due_by}
+use Rattle.udp_open.specs.LinkTrace.{is_of_opening, machine_layout, begins, copies, with_entries, machine, answered_by, due_by}
 use Rattle.udp_open.specs.LinkView.{Link, StandsBy, StandsLink, is_closed_state}
 use Rattle.udp_open.specs.OpeningView.{Handshake, Follows, AnswersFirst, SendsFirst, end_of}
-use Rattle.udp_open.proofs.LinkLemmas.{machine_begins, machine_open, keeps_early, passes_in, ignores_in, passes_poll, opened, before, waits}
+use Rattle.udp_open.proofs.LinkLemmas.{machine_begins, machine_open, keeps_early, passes_open, ignores_in, passes_poll, opened, before, waits}
 
 -- ---- what a link follows of its opening
 
@@ -139,18 +142,26 @@ hears_agreeing l n t now d took version peer none same ends follows is stands la
 
 -- ---- the machine of an open link
 
-closed_state : (m : Machine) → is_closed_state (condition_of m) ≡ nat_lt 16 ((m.sender).timer).expiries
-closed_state m = by_test (nat_lt 16 ((m.sender).timer).expiries) ((m.sender).timer).expiries
+closed_state : (m : Core) → is_closed_state (condition_of m) ≡ nat_lt 16 ((m.machine.sender).timer).expiries
+closed_state m = by_test (nat_lt 16 ((m.machine.sender).timer).expiries) ((m.machine.sender).timer).expiries
   where
     by_test : (b : Bool) (e : ℕ) → is_closed_state (if b then Closed e else Open) ≡ b
     by_test true e = refl
     by_test false e = refl
 
+-- in each version it survives so many expiries
+survives : (kind : LinkLayout) (m : Machine) → (core_layout kind m).bounds.expiries ≡ 16
+survives First m = refl
+survives Second m = refl
+
 -- whether it is closed
-pub closed_same : (m : Machine) (t : Trace Entry) (layout : Layout) → layout_of m ≡ layout → Stands m t
+pub closed_same : (m : Core) (t : Trace Entry) (layout : Layout) → layout_of m ≡ layout → Stands m t
     → is_closed_state (condition_of m) ≡ is_closed layout t
 closed_same m t layout same h =
-    closed_state m ∙ ap (λ x. nat_lt 16 x.expiries) (h.sends).timer_is ∙ ap (λ x. is_closed x t) same
+    closed_state m
+    ∙ ap (λ x. nat_lt 16 x.expiries) (h.sends).timer_is
+    ∙ ap (λ n. nat_lt n (timer (layout_of m) t).expiries) (sym (survives m.kind m.machine))
+    ∙ ap (λ x. is_closed x t) same
 
 twice : {A : Type 0} (b c : Bool) (x y z : A) → c ≡ false → (if b then x else (if c then y else (if b then x else z))) ≡ (if b then x else z)
 twice true c x y z h = refl
@@ -166,9 +177,9 @@ first : {A : Type 0} (b : Bool) (x y : A) → b ≡ true → (if b then x else y
 first true x y h = refl
 first false x y h = cc
 
--- a datagram that opens nothing
-pub takes_in : (l : Link) (m : Machine) (t : Trace Entry) (now : ℕ) (d : List ℕ) (took : Took) → IsSome (l.opening).agreement
-    → IsBytes d → has_syn d ≡ false
+-- a datagram that is none of its opening
+pub takes_in : (l : Link) (m : Core) (t : Trace Entry) (now : ℕ) (d : List ℕ) (took : Took) → IsSome (l.opening).agreement
+    → IsBytes d → ((a : Agreement) → (l.opening).agreement ≡ Some a → is_of_opening (l.opening).settings a d ≡ false)
     → ((u : Trace Entry) → Stands l.core u → Stands m (u ▷ In (max (l.opening).moment now) d took)) → layout_of m ≡ layout_of l.core
     → StandsLink l t
     → StandsLink (record l { opening = record l.opening { moment = max (l.opening).moment now }; core = m }) (t ▷ In now d took)
@@ -178,21 +189,22 @@ takes_in l m t now d took met good plain step same h =
     let some = some_is o.agreement met in
     let a = some.0 in
     let b = before l t a some.1 h in
-    let follows = passes_in o t now d took good plain h.follows in
+    let follows = passes_open o t now d took a good some.1 (plain a some.1) h.follows in
     let at = subst (λ k. Stands m (machine s t ▷ In (max k now) d took)) (h.follows).moment_is (step (machine s t) b.stands) in
     let law = same ∙ b.law in
     let trace : machine s (t ▷ In now d took) ≡ machine s t ▷ In (max (moment t) now) d took =
     machine_open s t (In now d took) a b.agreed_is
-    ∙ ap (λ x. with_entries (machine s t) (if x then copies s.role took else In (max (moment t) now) d took ∷ [])) plain in
-    let faithful : Faithful (layout_by s a) (machine s t ▷ In (max (moment t) now) d took) = subst (λ x. Faithful x (machine s t ▷ In (max (moment t) now) d took)) law at.faithful in
-    let answer : took ≡ answered_by s t (Some a) d = faithful.0 ∙ sym (twice (is_closed (layout_by s a) (machine s t)) (has_syn d) (Ignored reason.LinkClosed) (opening_answered s t d) _ plain) in
+    ∙ ap (λ x. with_entries (machine s t) (if x then copies s.role took else In (max (moment t) now) d took ∷ [])) (plain a some.1) in
+    let faithful : Faithful (machine_layout s a) (machine s t ▷ In (max (moment t) now) d took) = subst (λ x. Faithful x (machine s t ▷ In (max (moment t) now) d took)) law at.faithful in
+    let answer : took ≡ answered_by s t (Some a) d = faithful.0 ∙ sym (twice (is_closed (machine_layout s a) (machine s t)) (is_of_opening s a d) (Ignored reason.LinkClosed) (opening_answered s t d) _ (plain a some.1)) in
     opened (record l { opening = record o { moment = max o.moment now }; core = m }) s t (In now d took) a refl follows (sym follows.agreement_is ∙ some.1)
     (subst (λ x. took ≡ answered_by s t x d) (sym b.agreed_is) answer) h.faithful
     (subst (λ x. Stands m x) (sym trace) at) law
 
 -- an opening that comes where the machine is closed
 pub ignores : (l : Link) (t : Trace Entry) (now : ℕ) (d : List ℕ) → IsSome (l.opening).agreement
-    → has_syn d ≡ true → is_closed_state (condition_of l.core) ≡ true
+    → ((a : Agreement) → (l.opening).agreement ≡ Some a → is_of_opening (l.opening).settings a d ≡ true)
+    → is_closed_state (condition_of l.core) ≡ true
     → StandsLink l t
     → StandsLink (record l { opening = record l.opening { moment = max (l.opening).moment now } }) (t ▷ In now d (Ignored reason.LinkClosed))
 ignores l t now d met set closed h =
@@ -205,16 +217,17 @@ ignores l t now d met set closed h =
     let follows = ignores_in o t now d h.follows in
     let trace : machine s (t ▷ e) ≡ machine s t =
     machine_open s t e a b.agreed_is
-    ∙ ap (λ x. with_entries (machine s t) (if x then copies s.role (Ignored reason.LinkClosed) else In (max (moment t) now) d (Ignored reason.LinkClosed) ∷ [])) set in
+    ∙ ap (λ x. with_entries (machine s t) (if x then copies s.role (Ignored reason.LinkClosed) else In (max (moment t) now) d (Ignored reason.LinkClosed) ∷ [])) (set a some.1) in
     let answer : Ignored reason.LinkClosed ≡ answered_by s t (Some a) d =
-    sym (first (is_closed (layout_by s a) (machine s t)) (Ignored reason.LinkClosed) _ (sym (closed_same l.core (machine s t) (layout_by s a) b.law b.stands) ∙ closed)) in
+    sym (first (is_closed (machine_layout s a) (machine s t)) (Ignored reason.LinkClosed) _ (sym (closed_same l.core (machine s t) (machine_layout s a) b.law b.stands) ∙ closed)) in
     opened (record l { opening = record o { moment = max o.moment now } }) s t e a refl follows (sym follows.agreement_is ∙ some.1)
     (subst (λ x. Ignored reason.LinkClosed ≡ answered_by s t x d) (sym b.agreed_is) answer) h.faithful
     (subst (λ x. Stands l.core x) (sym trace) b.stands) b.law
 
 -- an opening that comes where it is open, and what its machine makes of that
 pub hears_open : (l n : Link) (t : Trace Entry) (now : ℕ) (d : List ℕ) (took : Took) → IsSome (l.opening).agreement
-    → has_syn d ≡ true → is_closed_state (condition_of l.core) ≡ false
+    → ((a : Agreement) → (l.opening).agreement ≡ Some a → is_of_opening (l.opening).settings a d ≡ true)
+    → is_closed_state (condition_of l.core) ≡ false
     → (n.opening).settings ≡ (l.opening).settings → ((a : Agreement) → (l.opening).agreement ≡ Some a → (n.opening).agreement ≡ Some a)
     → Follows n.opening (t ▷ In now d took) → took ≡ opening_answered (l.opening).settings t d
     → ((u : Trace Entry) → Stands l.core u → Stands n.core (with_entries u (copies (l.opening).settings.role took))) → layout_of n.core ≡ layout_of l.core
@@ -227,10 +240,10 @@ hears_open l n t now d took met set closed settings stays follows is step same h
     let b = before l t a some.1 h in
     let trace : machine s (t ▷ e) ≡ with_entries (machine s t) (copies s.role took) =
     machine_open s t e a b.agreed_is
-    ∙ ap (λ x. with_entries (machine s t) (if x then copies s.role took else In (max (moment t) now) d took ∷ [])) set in
+    ∙ ap (λ x. with_entries (machine s t) (if x then copies s.role took else In (max (moment t) now) d took ∷ [])) (set a some.1) in
     let answer : took ≡ answered_by s t (Some a) d =
-    is ∙ sym (third (is_closed (layout_by s a) (machine s t)) (has_syn d) (Ignored reason.LinkClosed) (opening_answered s t d) _
-    (sym (closed_same l.core (machine s t) (layout_by s a) b.law b.stands) ∙ closed) set) in
+    is ∙ sym (third (is_closed (machine_layout s a) (machine s t)) (is_of_opening s a d) (Ignored reason.LinkClosed) (opening_answered s t d) _
+    (sym (closed_same l.core (machine s t) (machine_layout s a) b.law b.stands) ∙ closed) (set a some.1)) in
     opened n s t e a settings follows (ap (λ x. agreed x (t ▷ e)) (sym settings) ∙ sym follows.agreement_is ∙ stays a some.1)
     (subst (λ x. took ≡ answered_by s t x d) (sym b.agreed_is) answer) h.faithful
     (subst (λ x. Stands n.core x) (sym trace) (step (machine s t) b.stands)) (same ∙ b.law)
@@ -258,7 +271,7 @@ still_owed s t now None h = refl
 still_owed s t now (Some out) h = owed_none (owed s t) h
 
 -- the machine sends where no answer to an opening is owed
-pub polls_machine : (l : Link) (m : Machine) (t : Trace Entry) (now : ℕ) (out : Option (List ℕ)) → IsSome (l.opening).agreement
+pub polls_machine : (l : Link) (m : Core) (t : Trace Entry) (now : ℕ) (out : Option (List ℕ)) → IsSome (l.opening).agreement
     → nat_lt 0 (l.opening).owed ≡ false
     → ((u : Trace Entry) → Stands l.core u → Stands m (u ▷ Polled (max (l.opening).moment now) out)) → layout_of m ≡ layout_of l.core
     → StandsLink l t
@@ -277,10 +290,10 @@ polls_machine l m t now out met none step same h =
     let trace : machine s (t ▷ e) ≡ machine s t ▷ Polled (max (moment t) now) out =
     machine_open s t e a b.agreed_is
     ∙ ap (λ x. with_entries (machine s t) (if x then [] else Polled (max (moment t) now) out ∷ [])) idle in
-    let faithful : Faithful (layout_by s a) (machine s t ▷ Polled (max (moment t) now) out) = subst (λ x. Faithful x (machine s t ▷ Polled (max (moment t) now) out)) law at.faithful in
+    let faithful : Faithful (machine_layout s a) (machine s t ▷ Polled (max (moment t) now) out) = subst (λ x. Faithful x (machine s t ▷ Polled (max (moment t) now) out)) law at.faithful in
     let answer : out ≡ due_by s t (Some a) now =
-    faithful.0 ∙ sym (none_or (is_closed (layout_by s a) (machine s t)) (nat_lt 0 (owed s t)) (opening_due s t now) _
-    (closed_due (layout_by s a) (machine s t) (max (moment t) now)) idle) in
+    faithful.0 ∙ sym (none_or (is_closed (machine_layout s a) (machine s t)) (nat_lt 0 (owed s t)) (opening_due s t now) _
+    (closed_due (machine_layout s a) (machine s t) (max (moment t) now)) idle) in
     opened (record l { opening = record o { moment = max o.moment now }; core = m }) s t e a refl follows (sym follows.agreement_is ∙ some.1)
     (subst (λ x. out ≡ due_by s t x now) (sym b.agreed_is) answer) h.faithful
     (subst (λ x. Stands m x) (sym trace) at) law
@@ -303,7 +316,7 @@ polls_closed l t now met owes closed h =
     machine_open s t e a b.agreed_is
     ∙ ap (λ x. with_entries (machine s t) (if x then [] else Polled (max (moment t) now) None ∷ [])) busy in
     let answer : None ≡ due_by s t (Some a) now =
-    sym (first (is_closed (layout_by s a) (machine s t)) None _ (sym (closed_same l.core (machine s t) (layout_by s a) b.law b.stands) ∙ closed)) in
+    sym (first (is_closed (machine_layout s a) (machine s t)) None _ (sym (closed_same l.core (machine s t) (machine_layout s a) b.law b.stands) ∙ closed)) in
     opened (record l { opening = record o { moment = max o.moment now } }) s t e a refl follows (sym follows.agreement_is ∙ some.1)
     (subst (λ x. None ≡ due_by s t x now) (sym b.agreed_is) answer) h.faithful
     (subst (λ x. Stands l.core x) (sym trace) b.stands) b.law
@@ -325,15 +338,15 @@ polls_owed l o t now out met owes closed settings stays follows is h =
     machine_open s t e a b.agreed_is
     ∙ ap (λ x. with_entries (machine s t) (if x then [] else Polled (max (moment t) now) out ∷ [])) busy in
     let answer : out ≡ due_by s t (Some a) now =
-    is ∙ sym (third (is_closed (layout_by s a) (machine s t)) (nat_lt 0 (owed s t)) None (opening_due s t now) _
-    (sym (closed_same l.core (machine s t) (layout_by s a) b.law b.stands) ∙ closed) busy) in
+    is ∙ sym (third (is_closed (machine_layout s a) (machine s t)) (nat_lt 0 (owed s t)) None (opening_due s t now) _
+    (sym (closed_same l.core (machine s t) (machine_layout s a) b.law b.stands) ∙ closed) busy) in
     opened (record l { opening = o }) s t e a settings follows b.agreed_is
     (subst (λ x. out ≡ due_by s t x now) (sym b.agreed_is) answer) h.faithful
     (subst (λ x. Stands l.core x) (sym trace) b.stands) b.law
 
 -- ---- bytes that an open link is given and hands out
 
-pub gives_open : (l : Link) (m : Machine) (t : Trace Entry) (bytes : List ℕ) → IsSome (l.opening).agreement
+pub gives_open : (l : Link) (m : Core) (t : Trace Entry) (bytes : List ℕ) → IsSome (l.opening).agreement
     → ((u : Trace Entry) → Stands l.core u → Stands m (u ▷ Gave bytes)) → layout_of m ≡ layout_of l.core
     → StandsLink l t → StandsLink (record l { core = m }) (t ▷ Gave bytes)
 gives_open l m t bytes met step same h =
@@ -346,7 +359,7 @@ gives_open l m t bytes met step same h =
     b.agreed_is tt h.faithful
     (subst (λ x. Stands m x) (sym (machine_open s t (Gave bytes) some.0 b.agreed_is)) (step (machine s t) b.stands)) (same ∙ b.law)
 
-pub pulls_open : (l : Link) (m : Machine) (t : Trace Entry) (room : ℕ) (bytes : List ℕ) → IsSome (l.opening).agreement
+pub pulls_open : (l : Link) (m : Core) (t : Trace Entry) (room : ℕ) (bytes : List ℕ) → IsSome (l.opening).agreement
     → ((u : Trace Entry) → Stands l.core u → Stands m (u ▷ Pulled room bytes)) → layout_of m ≡ layout_of l.core
     → StandsLink l t → StandsLink (record l { core = m }) (t ▷ Pulled room bytes)
 pulls_open l m t room bytes met step same h =

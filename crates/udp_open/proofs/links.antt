@@ -1,5 +1,6 @@
 -- The proof of the law of two joined links that open.
 pub mod Flag
+pub mod Versions
 pub mod Opened
 pub mod Machines
 pub mod Network

@@ -1,22 +1,24 @@
--- The trace of a link that opens and then goes on as a machine of the first layout: which of its
--- calls reach the machine, what is answered and sent, and the law of its traces.
-use Rattle.std.specs.Prelude.{◌≡◌, ℕ, ◌%◌, ◌≤◌, ◌==◌, Bool, nat_lt, max, List, [], ◌∷◌, length, get_or, if◌then◌else◌, Option, Some, None}
+-- The trace of a link that opens and then goes on as a machine of the layout that was agreed on: which
+-- of its calls reach the machine, what is answered and sent, and the law of its traces.
+use Rattle.std.specs.Prelude.{◌≡◌, ℕ, ◌%◌, ◌≤◌, ◌==◌, Bool, nat_lt, max, List, [], ◌∷◌, length, get_or, if◌then◌else◌, Option, Some, None, Result, is_ok, false}
 use Rattle.mt_base.specs.declared.kinds.Role.{Role}
 use Rattle.mt_base.specs.declared.kinds.Role.TheVariants.{Server, Client}
 use Rattle.mt_base.specs.Trace.{Trace, Start, ◌▷◌}
 use Rattle.mt_windows.specs.declared.limits.TheConstants.{QUEUE}
 use Rattle.carrier.specs.declared.state.Took.{Took}
 use Rattle.carrier.specs.declared.state.Took.TheVariants.{Used, Ignored}
+use Rattle.carrier.specs.declared.state.Reason.{Reason}
 use Rattle.carrier.specs.declared.state.Reason.TheVariants as reason
 use Rattle.carrier.specs.Entries.{Entry, Gave, In, Polled, Pulled, Owed, Posted, Next, moment, given}
 use Rattle.carrier.specs.Layout.{Layout}
 use Rattle.carrier.specs.Sending.{is_closed}
 use Rattle.carrier.specs.Due.{due}
 use Rattle.carrier.specs.Law.{IsBytes, answered, Faithful}
-use Rattle.udp1_core.specs.MachineView.{link_layout}
+use Rattle.udp1_core.specs.MachineView.{link_layout as first_link_layout}
+use Rattle.link_core.specs.CoreView.{is_second, link_layout}
 use Rattle.udp_open.specs.declared.settings.OpenSettings.{OpenSettings}
 use Rattle.udp_open.specs.declared.agreement.Agreement.{Agreement}
-use Rattle.udp_open.specs.Handshake.{agreed, opening_answered, opening_due, owed}
+use Rattle.udp_open.specs.Handshake.{agreed, hears, opening_answered, opening_due, owed, shown}
 
 -- ---- the machine of a link
 
@@ -24,9 +26,25 @@ use Rattle.udp_open.specs.Handshake.{agreed, opening_answered, opening_due, owed
 abbrev pub has_syn : List ℕ → Bool
 has_syn datagram = get_or datagram 7 0 % 2 == 1
 
--- the layout of the machine, where this was agreed on
+-- A copy of the SYN that a server took, by what is heard in a datagram. A client takes no SYN.
+abbrev pub is_syn_copy : Role → Result Agreement Reason → Bool
+is_syn_copy Server heard = is_ok heard
+is_syn_copy Client heard = false
+
+-- Whether a datagram that comes to an open link is one of its opening. In versions 1 and 2 each with the
+-- flag SYN is. In version 0x0101 that bit is another one, and only a copy of the SYN at a server is.
+abbrev pub is_of_opening : OpenSettings → Agreement → List ℕ → Bool
+is_of_opening settings a datagram =
+    if is_second a.version then is_syn_copy settings.role (hears settings (Some a) (shown datagram))
+    else has_syn datagram
+
+-- the layout of the first machine, where this was agreed on
 abbrev pub layout_by : OpenSettings → Agreement → Layout
-layout_by settings a = link_layout settings.initial a.peer_initial a.version
+layout_by settings a = first_link_layout settings.initial a.peer_initial a.version
+
+-- the layout of the machine, where this was agreed on
+abbrev pub machine_layout : OpenSettings → Agreement → Layout
+machine_layout settings a = link_layout settings.initial a.peer_initial a.version
 
 -- what the opening that was taken, and each copy of it, tells a machine: at a client that two tellings
 -- are owed
@@ -47,21 +65,21 @@ copies role Used = tellings role
 copies role (Ignored why) = []
 
 -- What a call of an open link tells its machine: all but openings, at the link's own moments.
-abbrev pub reaches : OpenSettings → Trace Entry → Entry → List Entry
-reaches settings t (Gave bytes) = Gave bytes ∷ []
-reaches settings t (In now datagram took) =
-    if has_syn datagram then copies settings.role took else In (max (moment t) now) datagram took ∷ []
-reaches settings t (Polled now out) =
+abbrev pub reaches : OpenSettings → Agreement → Trace Entry → Entry → List Entry
+reaches settings a t (Gave bytes) = Gave bytes ∷ []
+reaches settings a t (In now datagram took) =
+    if is_of_opening settings a datagram then copies settings.role took else In (max (moment t) now) datagram took ∷ []
+reaches settings a t (Polled now out) =
     if nat_lt 0 (owed settings t) then [] else Polled (max (moment t) now) out ∷ []
-reaches settings t (Pulled room bytes) = Pulled room bytes ∷ []
-reaches settings t (Owed count) = []
-reaches settings t (Posted bytes) = []
-reaches settings t (Next bytes) = []
+reaches settings a t (Pulled room bytes) = Pulled room bytes ∷ []
+reaches settings a t (Owed count) = []
+reaches settings a t (Posted bytes) = []
+reaches settings a t (Next bytes) = []
 
 -- what a call tells the machine
 abbrev pub tells : OpenSettings → Trace Entry → Option Agreement → Entry → List Entry
 tells settings t None e = begins_by settings (agreed settings (t ▷ e)) (given t)
-tells settings t (Some a) e = reaches settings t e
+tells settings t (Some a) e = reaches settings a t e
 
 -- a trace with more entries
 abbrev pub with_entries : {E : Type 0} → Trace E → List E → Trace E
@@ -78,9 +96,9 @@ machine settings (t ▷ e) = with_entries (machine settings t) (tells settings t
 -- An open link answers to openings as its opening does, to the rest as its machine.
 abbrev pub answered_open : OpenSettings → Trace Entry → Agreement → List ℕ → Took
 answered_open settings t a datagram =
-    if is_closed (layout_by settings a) (machine settings t) then Ignored reason.LinkClosed
-    else (if has_syn datagram then opening_answered settings t datagram
-    else answered (layout_by settings a) (machine settings t) datagram)
+    if is_closed (machine_layout settings a) (machine settings t) then Ignored reason.LinkClosed
+    else (if is_of_opening settings a datagram then opening_answered settings t datagram
+    else answered (machine_layout settings a) (machine settings t) datagram)
 
 abbrev pub answered_by : OpenSettings → Trace Entry → Option Agreement → List ℕ → Took
 answered_by settings t None datagram = opening_answered settings t datagram
@@ -94,9 +112,9 @@ link_answered settings t datagram = answered_by settings t (agreed settings t) d
 -- one sends nothing.
 abbrev pub due_open : OpenSettings → Trace Entry → Agreement → ℕ → Option (List ℕ)
 due_open settings t a now =
-    if is_closed (layout_by settings a) (machine settings t) then None
+    if is_closed (machine_layout settings a) (machine settings t) then None
     else (if nat_lt 0 (owed settings t) then opening_due settings t now
-    else due (layout_by settings a) (machine settings t) (max (moment t) now))
+    else due (machine_layout settings a) (machine settings t) (max (moment t) now))
 
 abbrev pub due_by : OpenSettings → Trace Entry → Option Agreement → ℕ → Option (List ℕ)
 due_by settings t None now = opening_due settings t now
@@ -112,7 +130,7 @@ link_due settings t now = due_by settings t (agreed settings t) now
 -- bytes that stay within the queue
 abbrev pub KeepsMachine : OpenSettings → Option Agreement → Trace Entry → Type 0
 KeepsMachine settings None t = (length (given t) ≤ QUEUE) × IsBytes (given t)
-KeepsMachine settings (Some a) t = Faithful (layout_by settings a) (machine settings t)
+KeepsMachine settings (Some a) t = Faithful (machine_layout settings a) (machine settings t)
 
 -- what is true of one call after the calls before it
 abbrev pub Answers : OpenSettings → Trace Entry → Entry → Type 0

@@ -7,11 +7,11 @@ use Rattle.mt_windows.specs.SendingView.{queued_of}
 use Rattle.carrier.specs.declared.state.LinkState.{LinkState}
 use Rattle.carrier.specs.declared.state.LinkState.TheVariants.{Opening, Open, Closed}
 use Rattle.carrier.specs.Entries.{Entry, given, moment}
-use Rattle.udp1_core.specs.MachineView.{Machine, Stands, condition_of, layout_of}
+use Rattle.link_core.specs.CoreView.{Core, Stands, condition_of, layout_of}
 use Rattle.udp_open.specs.declared.agreement.Agreement.{Agreement}
 use Rattle.udp_open.specs.Handshake.{agreed, row, owed, closes}
 use Rattle.udp_open.specs.OpeningView.{Handshake, Follows}
-use Rattle.udp_open.specs.LinkTrace.{LinkFaithful, machine, layout_by, link_due}
+use Rattle.udp_open.specs.LinkTrace.{LinkFaithful, machine, machine_layout, link_due}
 use Rattle.udp_open.specs.declared.settings.OpenSettings.{OpenSettings}
 use Rattle.carrier.specs.Due.{closes as machine_closes}
 
@@ -19,14 +19,14 @@ use Rattle.carrier.specs.Due.{closes as machine_closes}
 pub record Link : Type 0 where
   pub opening : Handshake
   pub early : List ℕ
-  pub core : Machine
+  pub core : Core
 
 -- While it opens the bytes given wait; once the ends agreed the machine stands for its trace, under
 -- the layout that was agreed on.
 abbrev pub StandsBy : Link → Trace Entry → Option Agreement → Type 0
 StandsBy l t None = l.early ≡ given t
 StandsBy l t (Some a) =
-    Stands l.core (machine (l.opening).settings t) × (layout_of l.core ≡ layout_by (l.opening).settings a)
+    Stands l.core (machine (l.opening).settings t) × (layout_of l.core ≡ machine_layout (l.opening).settings a)
 
 -- this link stands for this trace
 pub record StandsLink (l : Link) (t : Trace Entry) : Type 0 where
@@ -56,7 +56,7 @@ condition_in l = condition_by l (l.opening).agreement
 -- the bytes in order that were not pulled
 abbrev pub left_by : Link → Option Agreement → List ℕ
 left_by l None = []
-left_by l (Some a) = left_of ((l.core).receiver).inbox
+left_by l (Some a) = left_of ((l.core).machine.receiver).inbox
 
 abbrev pub left_in : Link → List ℕ
 left_in l = left_by l (l.opening).agreement
@@ -64,7 +64,7 @@ left_in l = left_by l (l.opening).agreement
 -- the bytes given that are not known to have come
 abbrev pub load_by : Link → Option Agreement → ℕ
 load_by l None = length l.early
-load_by l (Some a) = queued_of ((l.core).sender).outbox
+load_by l (Some a) = queued_of ((l.core).machine.sender).outbox
 
 abbrev pub load_in : Link → ℕ
 load_in l = load_by l (l.opening).agreement
@@ -75,7 +75,7 @@ load_in l = load_by l (l.opening).agreement
 abbrev pub closes_by : OpenSettings → Trace Entry → Option Agreement → ℕ → Bool
 closes_by settings t None at = closes settings t at
 closes_by settings t (Some a) at =
-    not (nat_lt 0 (owed settings t)) && machine_closes (layout_by settings a) (machine settings t) at
+    not (nat_lt 0 (owed settings t)) && machine_closes (machine_layout settings a) (machine settings t) at
 
 -- a poll at this moment sends a datagram or closes the link
 abbrev pub is_due_in : OpenSettings → Trace Entry → ℕ → Bool

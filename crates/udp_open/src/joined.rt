@@ -14,12 +14,12 @@ ghost use Rattle.udp_open.specs.TwoLinks.{AgreesIn, JoinedLinks, LinkNet, LinkPa
 use crate::link::UdpLink;
 use udp1_core::first_links_join;
 
-/// Two ends of one link, which opens and then carries bytes, joined by a network that loses, copies
+/// Two ends of one link that offer version 1 or 2, which opens and then carries bytes, joined by a network that loses, copies
 /// and reorders datagrams and makes none, and that brings none too late. An end that agreed has the
 /// lower of the two versions and the initial number of the other end. Each datagram that comes at
 /// its machine comes in time, and is read as it was meant; a part that is settled at one end was
-/// accepted at the other, with the same bytes; and the bytes that one end passed, or that were pulled of it, are the first
-/// of those that were given to the other, also before it had opened.
+/// accepted at the other, with the same bytes; and the bytes that one end passed, or that were pulled
+/// of it, are the first of those that were given to the other, also before it had opened.
 pub fn two_links()
     ensures agree { (late : ℕ) (settings : Role → OpenSettings) (w : Trace Step)
         → LinkNet late settings w → (s : Role) → AgreesIn settings w s }

@@ -2,15 +2,15 @@
 //! version and tell each other their initial numbers, and how they then go on. It has no socket and
 //! no clock.
 //!
-//! Below it stand `udp1_core` with the machine of versions 1 and 2, `udp1_packets`, which reads and
-//! writes the datagrams of an opening, `carrier` with the calls of a link and what they answer,
+//! Below it stand `link_core` with the machine of any version, `udp1_packets`, which reads and writes
+//! the datagrams of an opening, `carrier` with the calls of a link and what they answer,
 //! `mt_windows` with the limits of a link, and the kit's `sha2`. What the crates above use is that
 //! [`UdpLink`] is a `Carrier`, which opens and then goes on as the machine of the version agreed on,
-//! and that on two joined links, from their opening on, what arrives at one end is what the other was
-//! given ([`two_links`], [`pulled_was_given`]). Of an [`Opening`] alone they use that it stands for a
-//! trace of its calls, in which each datagram is answered and each poll sends as the handshake says,
-//! that [`Opening::end`] is what was agreed on in it, and that two ends which meet agree
-//! ([`both_agree`]).
+//! and that on two joined links of version 1 or 2, from their opening on, what arrives at one end is
+//! what the other was given ([`two_links`], [`pulled_was_given`]). Of an [`Opening`] alone they use
+//! that it stands for a trace of its calls, in which each datagram is answered and each poll sends as
+//! the handshake says, that [`Opening::end`] is what was agreed on in it, and that two ends which
+//! meet agree ([`both_agree`]).
 #![tactic(auto)]
 
 mod agreement;

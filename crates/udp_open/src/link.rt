@@ -10,19 +10,19 @@ ghost use Rattle.carrier.specs.declared.state.LinkState.TheVariants.{Closed as I
 ghost use Rattle.carrier.specs.declared.state.Took.TheVariants.{Ignored};
 ghost use Rattle.carrier.specs.declared.state.Reason.TheVariants as reason;
 ghost use Rattle.carrier.specs.Entries.{Entry, Gave, In, Polled, Owed};
-ghost use Rattle.udp1_core.specs.MachineView.{Stands, layout_of, link_layout, condition_of};
-ghost use Rattle.udp_open.specs.OpeningView.{IsFirst, end_of};
-ghost use Rattle.udp_open.specs.LinkTrace.{LinkFaithful, begins, with_entries, has_syn, tellings};
+ghost use Rattle.link_core.specs.CoreView.{Stands, layout_of, link_layout, condition_of};
+ghost use Rattle.udp_open.specs.OpeningView.{IsOffered, end_of};
+ghost use Rattle.udp_open.specs.LinkTrace.{LinkFaithful, begins, with_entries, is_of_opening, tellings};
 ghost use Rattle.udp_open.specs.LinkView.{StandsLink, condition_in, left_in, load_in, IsNextDueIn, is_closed_state};
 
 use crate::opening::{OpenEnd, Opening};
 use crate::settings::OpenSettings;
 use carrier::{Carrier, GiveRefusal, LinkState, Reason, Took};
+use link_core::LinkCore;
 use mt_base::{NoMemory, Role};
 use mt_windows::QUEUE;
 use std::alloc::Global;
 use std::marker::Model;
-use udp1_core::Udp1Core;
 
 /// Expiries in a row that an opening survives.
 const EXPIRIES: u32 = 16;
@@ -34,34 +34,33 @@ const EXPIRIES: u32 = 16;
 pub struct UdpLink {
     opening: Opening,
     early: Vec<u8>,
-    core: Udp1Core,
+    core: LinkCore,
 }
 
 impl Model for UdpLink {
     ghost use Rattle.std.specs.Prelude.{◌≤◌};
     ghost use Rattle.std.specs.Vec.{vec_capacity};
     ghost use Rattle.mt_windows.specs.declared.limits.TheConstants.{QUEUE};
-    ghost use Rattle.udp_open.specs.OpeningView.{IsFirst};
     ghost use Rattle.udp_open.specs.LinkView.{Link, IsSoundLink};
 
     ghost Value = { Link };
 
     ghost view = { λ l. record { opening = l.opening; early = l.early.items; core = l.core } };
 
-    ghost invariant = { λ l. record { sound : IsSoundLink (record { opening = l.opening; early = l.early.items; core = l.core }); room : QUEUE ≤ vec_capacity l.early; first : IsFirst ((l.opening).settings).version } };
+    ghost invariant = { λ l. record { sound : IsSoundLink (record { opening = l.opening; early = l.early.items; core = l.core }); room : QUEUE ≤ vec_capacity l.early } };
 }
 
 impl UdpLink {
-    /// A link that opens with these settings, whose version is 0x0001 or 0x0002.
+    /// A link that opens with these settings, whose version is 0x0001, 0x0002 or 0x0101.
     pub fn new(alloc: Global, settings: &OpenSettings) -> Result<UdpLink, NoMemory>
-        requires { IsFirst settings.now.version }
+        requires { IsOffered settings.now.version }
         ensures stands { IfOk result (λ l. StandsLink l Start) }
         ensures settings { IfOk result (λ l. l.opening.settings ≡ settings.now) }
         ensures left { IfOk result (λ l. left_in l ≡ []) }
         ensures load { IfOk result (λ l. load_in l ≡ 0) }
     {
         let early = Vec::with_capacity(alloc, QUEUE)?;
-        let core = Udp1Core::new(alloc, 0, 0, settings.version)?;
+        let core = LinkCore::new(alloc, 0, 0, settings.version)?;
         Ok(UdpLink {
             opening: Opening::new(settings),
             early,
@@ -71,11 +70,11 @@ impl UdpLink {
 
     /// Starts the machine, and hands it the bytes that were given while the link opened.
     fn begin(&mut self, version: u16, peer_initial: u32)
-        requires { IsFirst version }
+        requires { IsOffered version }
         ensures stands { Stands self.new.core (with_entries Start (begins self.old.opening.settings.role self.old.early)) }
         ensures layout { layout_of self.new.core ≡ link_layout self.old.opening.settings.initial peer_initial version }
-        ensures left { left_of self.new.core.receiver.inbox ≡ [] }
-        ensures queued { queued_of self.new.core.sender.outbox ≤ length self.old.early }
+        ensures left { left_of self.new.core.machine.receiver.inbox ≡ [] }
+        ensures queued { queued_of self.new.core.machine.sender.outbox ≤ length self.old.early }
         ensures open { (e : ℕ) → condition_of self.new.core ≡ IsClosed e → ⊥ }
         ensures early { self.new.early ≡ [] }
         ensures opening { self.new.opening ≡ self.old.opening }
@@ -95,8 +94,8 @@ impl UdpLink {
         ensures stands { (t : Trace Entry) → Stands self.old.core t →
             Stands self.new.core (with_entries t (tellings self.old.opening.settings.role)) }
         ensures layout { layout_of self.new.core ≡ layout_of self.old.core }
-        ensures left { left_of self.new.core.receiver.inbox ≡ left_of self.old.core.receiver.inbox }
-        ensures queued { queued_of self.new.core.sender.outbox ≡ queued_of self.old.core.sender.outbox }
+        ensures left { left_of self.new.core.machine.receiver.inbox ≡ left_of self.old.core.machine.receiver.inbox }
+        ensures queued { queued_of self.new.core.machine.sender.outbox ≡ queued_of self.old.core.machine.sender.outbox }
         ensures state { condition_of self.new.core ≡ condition_of self.old.core }
         ensures opening { self.new.opening ≡ self.old.opening }
         ensures early { self.new.early ≡ self.old.early }
@@ -144,7 +143,7 @@ impl UdpLink {
             (condition_in self.new ≡ IsClosed e) × (result ≡ Ignored reason.LinkClosed) }
         ensures stays_open { (e : ℕ) → condition_in self.new ≡ IsClosed e → condition_in self.old ≡ IsClosed e }
     {
-        if !has_syn(datagram) {
+        if !self.opening.is_of_opening(datagram) {
             self.opening.pass(now);
             return self.core.input(self.opening.moment(), datagram);
         }
@@ -241,16 +240,6 @@ impl UdpLink {
         ensures { result ≡ is_closed_state (condition_of self.now.core) }
     {
         matches!(self.core.state(), LinkState::Closed { .. })
-    }
-}
-
-/// Whether the datagram's flag SYN is set (MS-RDPEUDP section 2.2.2.1).
-fn has_syn(datagram: &[u8]) -> bool
-    ensures { result ≡ has_syn datagram.now }
-{
-    match datagram.get(7) {
-        Some(flags) => flags % 2 == 1,
-        None => false,
     }
 }
 

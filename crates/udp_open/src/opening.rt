@@ -12,10 +12,12 @@ ghost use Rattle.carrier.specs.States.{written};
 ghost use Rattle.udp1_packets.specs.Layout.{spelled};
 ghost use Rattle.udp_open.specs.declared.agreement.Agreement.{Agreement};
 ghost use Rattle.udp_open.specs.declared.opening.OpenEnd.TheVariants.{Agreed as IsAgreed};
-ghost use Rattle.udp_open.specs.Handshake.{agreed, expiries, row, is_closed, asked, is_time, started, owed_by, syn_ack, opening_answered, opening_due, IsNextDue};
+ghost use Rattle.udp_open.specs.LinkTrace.{has_syn, is_of_opening, is_syn_copy};
+ghost use Rattle.udp_open.specs.Handshake.{agreed, expiries, hears, shown, row, is_closed, asked, is_time, started, owed_by, syn_ack, opening_answered, opening_due, IsNextDue};
 ghost use Rattle.udp_open.specs.OpeningView.{IsOffered, IsTimer, Follows, StandsOpen, AnswersFirst, SendsFirst, end_of, after_asking, next_syn};
 
 use crate::agreement::Agreement;
+use crate::flags::VERSION_3;
 use crate::hearing::hear;
 use crate::sending::{send_syn, send_syn_ack};
 use crate::settings::OpenSettings;
@@ -162,6 +164,29 @@ impl Opening {
         ensures { result ≡ self.now.settings.initial }
     {
         self.settings.initial
+    }
+
+    /// Whether a datagram that comes to the open link is one of its opening. In versions 0x0001 and
+    /// 0x0002 each with the flag SYN is, in version 0x0101 a copy of the SYN at a server alone.
+    pub(crate) fn is_of_opening(&self, datagram: &[u8]) -> bool
+        ensures { (a : Agreement) → self.now.agreement ≡ Some a →
+            result ≡ is_of_opening self.now.settings a datagram.now }
+    {
+        match self.agreement {
+            Some(agreement) if agreement.version == VERSION_3 => self.is_syn_copy(datagram),
+            _ => has_syn(datagram),
+        }
+    }
+
+    /// Whether a datagram is a copy of the SYN that a server took.
+    fn is_syn_copy(&self, datagram: &[u8]) -> bool
+        ensures { result ≡ is_syn_copy self.now.settings.role
+            (hears self.now.settings self.now.agreement (shown datagram.now)) }
+    {
+        match self.settings.role {
+            Role::Server => hear(&self.settings, self.agreement, datagram).is_ok(),
+            Role::Client => false,
+        }
     }
 
     /// Whether a SYN+ACK is owed.
@@ -313,5 +338,15 @@ impl Opening {
             (Role::Server, Some(_)) if self.owed > 0 => Some(self.moment),
             _ => None,
         }
+    }
+}
+
+/// Whether the datagram's flag SYN is set (MS-RDPEUDP section 2.2.2.1).
+fn has_syn(datagram: &[u8]) -> bool
+    ensures { result ≡ has_syn datagram.now }
+{
+    match datagram.get(7) {
+        Some(flags) => flags % 2 == 1,
+        None => false,
     }
 }

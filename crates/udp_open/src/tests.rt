@@ -2,6 +2,7 @@
 
 mod link;
 mod opening;
+mod third;
 
 use super::*;
 

@@ -15,7 +15,7 @@ use Rattle.carrier.specs.Joined.{Step, At, half}
 use Rattle.udp_open.specs.declared.settings.OpenSettings.{OpenSettings}
 use Rattle.udp_open.specs.declared.agreement.Agreement.{Agreement}
 use Rattle.udp_open.specs.Handshake.{agreed, owed}
-use Rattle.udp_open.specs.LinkTrace.{has_syn, layout_by, begins, begins_by, copies, reaches, tells, with_entries, machine, Answers, LinkFaithful, KeepsMachine}
+use Rattle.udp_open.specs.LinkTrace.{is_of_opening, machine_layout, begins, begins_by, copies, reaches, tells, with_entries, machine, Answers, LinkFaithful, KeepsMachine}
 use Rattle.udp_open.specs.TwoLinks.{with_steps, machines}
 use Rattle.udp_open.proofs.Staying.{agreed_stays}
 
@@ -43,7 +43,7 @@ not_begun s (t ▷ e) h =
 -- ---- the machine keeps the law of its layout
 
 pub machine_faithful : (s : OpenSettings) (t : Trace Entry) (layout : Layout) → LinkFaithful s t
-    → ((a : Agreement) → agreed s t ≡ Some a → layout_by s a ≡ layout) → Faithful layout (machine s t)
+    → ((a : Agreement) → agreed s t ≡ Some a → machine_layout s a ≡ layout) → Faithful layout (machine s t)
 machine_faithful s Start layout law same = tt
 machine_faithful s (t ▷ e) layout law same = by_agreement (agreed s (t ▷ e)) refl law.1
   where
@@ -87,14 +87,14 @@ given_same s (t ▷ e) a h = by_agreement (agreed s t) refl (λ b is. given_same
     polled m true now out = refl
     polled m false now out = refl
 
-    reached : (e : Entry) → given (machine s t) ≡ given t → given (with_entries (machine s t) (reaches s t e)) ≡ given (t ▷ e)
-    reached (Gave bytes) old = ap (λ xs. xs ++ bytes) old
-    reached (In now datagram took) old = came (machine s t) s.role (has_syn datagram) (max (moment t) now) datagram took ∙ old
-    reached (Polled now out) old = polled (machine s t) (nat_lt 0 (owed s t)) (max (moment t) now) out ∙ old
-    reached (Pulled room bytes) old = old
-    reached (Owed count) old = old
-    reached (Posted bytes) old = old
-    reached (Next bytes) old = old
+    reached : (b : Agreement) (e : Entry) → given (machine s t) ≡ given t → given (with_entries (machine s t) (reaches s b t e)) ≡ given (t ▷ e)
+    reached b (Gave bytes) old = ap (λ xs. xs ++ bytes) old
+    reached b (In now datagram took) old = came (machine s t) s.role (is_of_opening s b datagram) (max (moment t) now) datagram took ∙ old
+    reached b (Polled now out) old = polled (machine s t) (nat_lt 0 (owed s t)) (max (moment t) now) out ∙ old
+    reached b (Pulled room bytes) old = old
+    reached b (Owed count) old = old
+    reached b (Posted bytes) old = old
+    reached b (Next bytes) old = old
 
     by_agreement : (o : Option Agreement) → agreed s t ≡ o → ((b : Agreement) → agreed s t ≡ Some b → given (machine s t) ≡ given t)
         → given (machine s (t ▷ e)) ≡ given (t ▷ e)
@@ -102,7 +102,7 @@ given_same s (t ▷ e) a h = by_agreement (agreed s t) refl (λ b is. given_same
         ap (λ es. given (with_entries (machine s t) es)) (at_first s t e (Some a) before h)
         ∙ ap (λ m. given (with_entries m (begins s.role (given t)))) (not_begun s t before)
         ∙ given_first s.role (given t) ∙ begun e before h
-    by_agreement (Some b) is old = ap (λ o. given (with_entries (machine s t) (tells s t o e))) is ∙ reached e (old b is)
+    by_agreement (Some b) is old = ap (λ o. given (with_entries (machine s t) (tells s t o e))) is ∙ reached b e (old b is)
 
 -- ---- what is pulled of it
 
@@ -144,20 +144,20 @@ pulled_same s (t ▷ e) law = by_agreement (agreed s t) refl (pulled_same s t la
     polled m true now out = refl
     polled m false now out = refl
 
-    reached : (e : Entry) → Answers s t e → pulled (machine s t) ≡ pulled t → pulled (with_entries (machine s t) (reaches s t e)) ≡ pulled (t ▷ e)
-    reached (Gave bytes) answers old = old
-    reached (In now datagram took) answers old = came (machine s t) s.role (has_syn datagram) (max (moment t) now) datagram took ∙ old
-    reached (Polled now out) answers old = polled (machine s t) (nat_lt 0 (owed s t)) (max (moment t) now) out ∙ old
-    reached (Pulled room bytes) answers old = ap (λ xs. xs ++ bytes) old
-    reached (Owed count) answers old = old
-    reached (Posted bytes) answers old = absurd answers
-    reached (Next bytes) answers old = absurd answers
+    reached : (b : Agreement) (e : Entry) → Answers s t e → pulled (machine s t) ≡ pulled t → pulled (with_entries (machine s t) (reaches s b t e)) ≡ pulled (t ▷ e)
+    reached b (Gave bytes) answers old = old
+    reached b (In now datagram took) answers old = came (machine s t) s.role (is_of_opening s b datagram) (max (moment t) now) datagram took ∙ old
+    reached b (Polled now out) answers old = polled (machine s t) (nat_lt 0 (owed s t)) (max (moment t) now) out ∙ old
+    reached b (Pulled room bytes) answers old = ap (λ xs. xs ++ bytes) old
+    reached b (Owed count) answers old = old
+    reached b (Posted bytes) answers old = absurd answers
+    reached b (Next bytes) answers old = absurd answers
 
     by_agreement : (o : Option Agreement) → agreed s t ≡ o → pulled (machine s t) ≡ pulled t → pulled (machine s (t ▷ e)) ≡ pulled (t ▷ e)
     by_agreement None is old =
         ap (λ es. pulled (with_entries (machine s t) es)) (at_first s t e (agreed s (t ▷ e)) is refl)
         ∙ begun_by (machine s t) (agreed s (t ▷ e)) (given t) ∙ old ∙ unpulled e law.0 is
-    by_agreement (Some b) is old = ap (λ o. pulled (with_entries (machine s t) (tells s t o e))) is ∙ reached e law.0 old
+    by_agreement (Some b) is old = ap (λ o. pulled (with_entries (machine s t) (tells s t o e))) is ∙ reached b e law.0 old
 
 -- ---- both machines
 

@@ -12,7 +12,7 @@ use Rattle.carrier.specs.Joined.{half, Timely}
 use Rattle.udp1_packets.specs.Reading.{body_at, data_at, number_where, packet_at, rest_at, told_at, vector_where, opening_at, syn_with, mtu_at, version_at, block32_at, extension_at, extended_at, zeros_at}
 use Rattle.udp_open.specs.Handshake.{agreed}
 use Rattle.udp_open.specs.OpeningView.{IsFirst}
-use Rattle.udp_open.specs.LinkTrace.{layout_by, LinkFaithful}
+use Rattle.udp_open.specs.LinkTrace.{machine_layout, LinkFaithful}
 use Rattle.udp_open.specs.TwoLinks.{LinkNet}
 use Rattle.udp_open.specs.OneLink.{one_agreement, one_link, one_settings}
 
@@ -28,10 +28,10 @@ no_byte : All (λ b. b < 256) []
 no_byte = All-nil (λ b. b < 256)
 
 -- the law of each machine, and then of its link, the last call first
-server_begun : Faithful (layout_by (one_settings Server) (one_agreement Server)) (Start ▷ Gave (0x41 ∷ []))
+server_begun : Faithful (machine_layout (one_settings Server) (one_agreement Server)) (Start ▷ Gave (0x41 ∷ []))
 server_begun = (lit≤ tt, one_byte, tt)
 
-client_begun : Faithful (layout_by (one_settings Client) (one_agreement Client)) (Start ▷ Gave [] ▷ Owed 2)
+client_begun : Faithful (machine_layout (one_settings Client) (one_agreement Client)) (Start ▷ Gave [] ▷ Owed 2)
 client_begun = (lit≤ tt, no_byte, tt)
 
 one_faithful : (s : Role) → LinkFaithful (one_settings s) (half s one_link)

@@ -1,5 +1,5 @@
 -- What a link sends is sent by its opening or by its machine; so two joined links agree.
-use Rattle.std.proofs.Common.{◌≡◌, ◌⊎◌, inl, inr, ℕ, Bool, true, false, List, Option, Some, None, refl, sym, ap, ◌∙◌, arith}
+use Rattle.std.proofs.Common.{◌≡◌, ◌⊎◌, inl, inr, ℕ, Bool, true, false, List, Option, Some, None, refl, sym, ap, ◌∙◌, subst, arith}
 use Rattle.std.specs.Prelude.{nat_lt, max, if◌then◌else◌, IfSome}
 use Rattle.std.specs.Option.{option_map}
 use Rattle.mt_base.specs.declared.kinds.Role.{Role}
@@ -15,9 +15,10 @@ use Rattle.udp_open.specs.declared.agreement.Agreement.{Agreement}
 use Rattle.udp_open.specs.Handshake.{agreed, owed, timer, opening_due}
 use Rattle.udp_open.specs.OpeningView.{IsFirst, IsOffered}
 use Rattle.udp_open.specs.Agreeing.{is_opening, SendsDue, WasSent, Meet, AgreesWith}
-use Rattle.udp_open.specs.LinkTrace.{has_syn, layout_by, machine, link_due, due_by, LinkFaithful}
+use Rattle.udp_open.specs.LinkTrace.{has_syn, layout_by, machine_layout, machine, link_due, due_by, LinkFaithful}
 use Rattle.udp_open.specs.TwoLinks.{LinkNet, AgreesIn}
 use Rattle.udp_open.proofs.Agreeing.{agrees}
+use Rattle.udp_open.proofs.links.Versions.{agreed_first, first_machine}
 use Rattle.udp_open.proofs.links.Flag.{opening_flag, machine_plain, sent_has}
 
 -- ---- who sends a datagram
@@ -40,21 +41,23 @@ opened_by true owes x y out h = cc
 opened_by false true x y out h = inl (refl, h)
 opened_by false false x y out h = inr (refl, h)
 
-pub sent_by : (s : OpenSettings) (t : Trace Entry) (now : ℕ) (out : List ℕ) → Some out ≡ link_due s t now
+pub sent_by : (s : OpenSettings) (t : Trace Entry) (now : ℕ) (out : List ℕ) → IsFirst s.version → Some out ≡ link_due s t now
     → (opening_due s t now ≡ Some out) ⊎ ByMachine s t out
-sent_by s t now out h = by_agreement (agreed s t) refl h
+sent_by s t now out first h = by_agreement (agreed s t) refl h
   where
     by_machine : (a : Agreement) → agreed s t ≡ Some a → nat_lt 0 (owed s t) ≡ false
-        → Some out ≡ due (layout_by s a) (machine s t) (max (moment t) now) → ByMachine s t out
+        → Some out ≡ due (machine_layout s a) (machine s t) (max (moment t) now) → ByMachine s t out
     by_machine a is none h =
-        let was = mapped (λ d. spelled (packet_with d)) (meant (layout_by s a) (machine s t) (max (moment t) now)) out h in
+        let same = first_machine s a (agreed_first s t a first is) in
+        let was = mapped (λ d. spelled (packet_with d)) (meant (layout_by s a) (machine s t) (max (moment t) now)) out
+        (subst (λ l. Some out ≡ due l (machine s t) (max (moment t) now)) same h) in
         record { agreement = a; agreed_is = is; none_owed = none; plain = ap has_syn was.1 ∙ machine_plain was.0 }
 
     by_agreement : (a : Option Agreement) → agreed s t ≡ a → Some out ≡ due_by s t a now → (opening_due s t now ≡ Some out) ⊎ ByMachine s t out
     by_agreement None is h = inl (sym h)
     by_agreement (Some a) is h =
-        elim (opened_by (is_closed (layout_by s a) (machine s t)) (nat_lt 0 (owed s t)) (opening_due s t now) (due (layout_by s a) (machine s t) (max (moment t) now)) out h) [
-          | inl first ↦ inl (sym first.1)
+        elim (opened_by (is_closed (machine_layout s a) (machine s t)) (nat_lt 0 (owed s t)) (opening_due s t now) (due (machine_layout s a) (machine s t) (max (moment t) now)) out h) [
+          | inl opening ↦ inl (sym opening.1)
           | inr last ↦ inr (by_machine a is last.0 last.1)
         ]
 
@@ -67,20 +70,20 @@ due_has s t now out h = sent_has s s.role (agreed s t) (timer s t) (owed s t) (m
 pub link_before : (s : OpenSettings) (t : Trace Entry) (e : Entry) → LinkFaithful s (t ▷ e) → LinkFaithful s t
 link_before s t e h = h.2
 
-sends_due : (s : OpenSettings) (t : Trace Entry) → LinkFaithful s t → SendsDue s t
-sends_due s Start h = tt
-sends_due s (t ▷ Gave bytes) h = sends_due s t h.2
-sends_due s (t ▷ In now datagram took) h = sends_due s t h.2
-sends_due s (t ▷ Polled now None) h = sends_due s t h.2
-sends_due s (t ▷ Polled now (Some out)) h = ((λ o. by_sender o (sent_by s t now out h.0)), sends_due s t h.2)
+sends_due : (s : OpenSettings) (t : Trace Entry) → IsFirst s.version → LinkFaithful s t → SendsDue s t
+sends_due s Start first h = tt
+sends_due s (t ▷ Gave bytes) first h = sends_due s t first h.2
+sends_due s (t ▷ In now datagram took) first h = sends_due s t first h.2
+sends_due s (t ▷ Polled now None) first h = sends_due s t first h.2
+sends_due s (t ▷ Polled now (Some out)) first h = ((λ o. by_sender o (sent_by s t now out first h.0)), sends_due s t first h.2)
   where
     by_sender : is_opening out ≡ true → (opening_due s t now ≡ Some out) ⊎ ByMachine s t out → opening_due s t now ≡ Some out
     by_sender o (inl is) = is
     by_sender o (inr m) = let flag = (opening_flag out o).0 in let none = m.plain in cc
-sends_due s (t ▷ Pulled room bytes) h = sends_due s t h.2
-sends_due s (t ▷ Owed count) h = sends_due s t h.2
-sends_due s (t ▷ Posted bytes) h = sends_due s t h.2
-sends_due s (t ▷ Next bytes) h = sends_due s t h.2
+sends_due s (t ▷ Pulled room bytes) first h = sends_due s t first h.2
+sends_due s (t ▷ Owed count) first h = sends_due s t first h.2
+sends_due s (t ▷ Posted bytes) first h = sends_due s t first h.2
+sends_due s (t ▷ Next bytes) first h = sends_due s t first h.2
 
 was_sent : (late : ℕ) (w : Trace Step) → Timely late w → WasSent w
 was_sent late Start h = tt
@@ -107,7 +110,7 @@ meet late settings w h = record {
   versions = λ s. offered (h.versions s);
   initials = h.initials;
   hashes = λ s is. absurd (not_third (h.versions s) is);
-  sends = λ s. sends_due (settings s) (half s w) (h.faithful s);
+  sends = λ s. sends_due (settings s) (half s w) (h.versions s) (h.faithful s);
   sent = was_sent late w h.timely;
 }
 

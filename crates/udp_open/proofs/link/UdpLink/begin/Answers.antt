@@ -1,7 +1,7 @@
 use Rattle.std.proofs.Common.{subst}
 use Rattle.carrier.specs.Entries.{Gave}
 use Rattle.mt_base.specs.Trace.{Start, ◌▷◌}
-use Rattle.udp1_core.specs.MachineView.{Stands}
+use Rattle.link_core.specs.CoreView.{Stands}
 use Rattle.link_machine.proofs.Steps.{where_ok}
 use Rattle.udp_open.specs.LinkTrace.{with_entries, tellings}
 use Rattle.udp_open.specs.LinkView.{Link}

@@ -3,7 +3,7 @@ use Rattle.std.specs.Option.{IsSome}
 use Rattle.std.proofs.lemmas.List.Elements.{All-from_get_or}
 use Rattle.mt_base.specs.Trace.{◌▷◌}
 use Rattle.carrier.specs.Entries.{In}
-use Rattle.udp1_core.specs.MachineView.{Stands, condition_of}
+use Rattle.link_core.specs.CoreView.{Stands, condition_of}
 use Rattle.udp_open.specs.LinkTrace.{copies, tellings, with_entries}
 use Rattle.udp_open.specs.LinkView.{Link, StandsLink, is_closed_state}
 use Rattle.udp_open.specs.OpeningView.{Handshake, Follows}
@@ -11,8 +11,8 @@ use Rattle.udp_open.specs.declared.settings.OpenSettings.{OpenSettings}
 use Rattle.udp_open.proofs.LinkSteps.{answers_same, takes_in, hears_open}
 use Rattle.udp_open.proofs.link.UdpLink.input_open.Goals as goal
 
-pub returns-then-not-has_syn-clause-trace : goal.returns-then-not-has_syn-clause-trace
-returns-then-not-has_syn-clause-trace c t h =
+pub returns-then-not-is_of_opening-clause-trace : goal.returns-then-not-is_of_opening-clause-trace
+returns-then-not-is_of_opening-clause-trace c t h =
     let i = c.self.inside in
     let l : Link = record { opening = i.opening; early = i.early.items; core = i.core } in
     let now = subst (λ (l : Link). StandsLink l t) (sym c.self.view_is) h in
@@ -21,7 +21,7 @@ returns-then-not-has_syn-clause-trace c t h =
     let passed = c.pass.ensures in
     let at = c.moment.ensures.value ∙ ap (λ (o : Handshake). o.moment) passed in
     subst (λ (o : Handshake). StandsLink (record { opening = o; early = i.early.items; core = c.input.new.self }) (t ▷ In c.args.now c.args.datagram.now c.input.result)) (sym passed)
-    (takes_in l c.input.new.self t c.args.now c.args.datagram.now c.input.result some good (sym c.has_syn.ensures ∙ c.if-not-has_syn.true)
+    (takes_in l c.input.new.self t c.args.now c.args.datagram.now c.input.result some good (λ a is. sym (c.is_of_opening.ensures a is) ∙ c.if-not-is_of_opening.true)
     (λ u stands. subst (λ k. Stands c.input.new.self (u ▷ In k c.args.datagram.now c.input.result)) at (c.input.ensures.trace u stands)) c.input.ensures.layout now)
 
 pub returns-in-Used-clause-trace : goal.returns-in-Used-clause-trace
@@ -34,7 +34,7 @@ returns-in-Used-clause-trace c t h =
     let closed = subst (λ (l : Link). is_closed_state (condition_of l.core) ≡ false) (sym c.self.view_is) (sym c.is_closed.ensures ∙ c.if-is_closed.false) in
     let x = c.input-took.ensures in
     let b = c.owe_tellings.ensures in
-    hears_open l n t c.args.now c.args.datagram.now c.input-took.result some (sym c.has_syn.ensures ∙ c.if-not-has_syn.false) closed
+    hears_open l n t c.args.now c.args.datagram.now c.input-took.result some (λ a is. sym (c.is_of_opening.ensures a is) ∙ c.if-not-is_of_opening.false) closed
     (ap (λ (o : Handshake). o.settings) b.opening ∙ x.settings)
     (λ a is. ap (λ (o : Handshake). o.agreement) b.opening ∙ x.stays a is)
     (subst (λ (o : Handshake). Follows o (t ▷ In c.args.now c.args.datagram.now c.input-took.result)) (sym b.opening) (x.follows t _ now.follows (answers_same _)))
@@ -51,6 +51,6 @@ returns-in-Ignored-clause-trace c t h =
     let some = subst (λ (l : Link). IsSome (l.opening).agreement) (sym c.self.view_is) c.requires.opens in
     let closed = subst (λ (l : Link). is_closed_state (condition_of l.core) ≡ false) (sym c.self.view_is) (sym c.is_closed.ensures ∙ c.if-is_closed.false) in
     let x = c.input-took.ensures in
-    hears_open l n t c.args.now c.args.datagram.now c.input-took.result some (sym c.has_syn.ensures ∙ c.if-not-has_syn.false) closed
+    hears_open l n t c.args.now c.args.datagram.now c.input-took.result some (λ a is. sym (c.is_of_opening.ensures a is) ∙ c.if-not-is_of_opening.false) closed
     x.settings x.stays (x.follows t _ now.follows (answers_same _)) (x.answer t now.follows)
     (λ u stands. subst (λ r. Stands i.core (with_entries u (copies (i.opening).settings.role r))) (sym c.in-Ignored.is) stands) refl now

@@ -1,19 +1,16 @@
 use Rattle.std.proofs.Common.{◌≤◌, sym, ap, ◌∙◌, subst}
 use Rattle.mt_base.specs.Trace.{Start, ◌▷◌}
 use Rattle.carrier.specs.Entries.{In}
-use Rattle.udp1_core.specs.MachineView.{Stands, link_layout}
+use Rattle.link_core.specs.CoreView.{Stands, link_layout}
 use Rattle.udp_open.specs.declared.settings.OpenSettings.{OpenSettings}
 use Rattle.udp_open.specs.LinkTrace.{begins, with_entries}
 use Rattle.udp_open.specs.LinkView.{Link, StandsLink}
 use Rattle.udp_open.specs.OpeningView.{Handshake, Follows, end_of}
-use Rattle.udp_open.proofs.LinkLemmas.{first_below}
 use Rattle.udp_open.proofs.LinkSteps.{answers_same, hears_waiting, hears_agreeing}
 use Rattle.udp_open.proofs.link.UdpLink.input_opening.Goals as goal
 
 pub begin-requires : goal.begin-requires
-begin-requires c =
-    first_below c.in-Agreed.version _ (c.end.ensures.offered _ _ c.in-Agreed.is) c.self.invariant.first
-    (subst (λ (s : OpenSettings). c.in-Agreed.version ≤ s.version) c.input-took.ensures.settings (c.end.ensures.lower _ _ c.in-Agreed.is))
+begin-requires c = c.end.ensures.offered _ _ c.in-Agreed.is
 
 pub returns-in-Agreed-clause-trace : goal.returns-in-Agreed-clause-trace
 returns-in-Agreed-clause-trace c t h =

@@ -1,9 +1,9 @@
 use Rattle.std.proofs.Common.{◌≡◌, false, max, Some, None, sym, ap, ◌∙◌, subst}
 use Rattle.std.specs.Option.{IsSome}
 use Rattle.carrier.specs.Due.{IsNextDue}
-use Rattle.udp1_core.specs.MachineView.{condition_of, layout_of}
+use Rattle.link_core.specs.CoreView.{condition_of, layout_of}
 use Rattle.udp_open.specs.LinkView.{Link, StandsLink, IsNextDueIn, is_closed_state}
-use Rattle.udp_open.proofs.LinkDues.{next_owed, next_never, next_later}
+use Rattle.udp_open.proofs.LinkDues.{next_closed, next_owed, next_never, next_later}
 use Rattle.udp_open.proofs.link.UdpLink.next_open.Goals as goal
 
 pub returns-then-owes : goal.returns-then-owes
@@ -39,3 +39,7 @@ returns-in-None c t h =
     subst (λ (l : Link). IsNextDueIn (l.opening).settings t None) c.self.view_is
     (next_never l t some (sym c.owes.ensures ∙ c.if-owes.false) going
     (λ u stands. subst (λ r. IsNextDue (layout_of i.core) u r) c.in-None.is (c.next_due-2.ensures u stands)) now)
+
+pub returns-then-is_closed : goal.returns-then-is_closed
+returns-then-is_closed c t h =
+    next_closed c.args.self.now t c.requires (sym c.is_closed.ensures ∙ c.if-is_closed.true) h

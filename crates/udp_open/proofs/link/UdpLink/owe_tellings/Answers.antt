@@ -1,5 +1,5 @@
 use Rattle.std.proofs.Common.{sym, ◌∙◌, subst}
-use Rattle.udp1_core.specs.MachineView.{Stands}
+use Rattle.link_core.specs.CoreView.{Stands}
 use Rattle.udp_open.specs.LinkTrace.{with_entries, tellings}
 use Rattle.udp_open.specs.LinkView.{Link}
 use Rattle.udp_open.proofs.LinkLemmas.{owes_two, owes_none}
