@@ -1,5 +1,5 @@
 -- What the ends agree on is no version above those that they offer.
-use Rattle.std.proofs.Common.{◌≡◌, ℕ, ◌≤◌, ◌==◌, Bool, true, false, ◌&&◌, not, nat_le, inl, inr, if◌then◌else◌, Option, Some, None, Result, Ok, Err, ap, subst, arith}
+use Rattle.std.proofs.Common.{◌≡◌, ℕ, ◌≤◌, ◌==◌, Bool, true, false, ◌&&◌, not, nat_le, inl, inr, if◌then◌else◌, Option, Some, None, Result, Ok, Err, subst, arith}
 use Rattle.std.proofs.lemmas.Bool.Decides.{nat_tests}
 use Rattle.mt_base.specs.declared.kinds.Role.{Role}
 use Rattle.mt_base.specs.declared.kinds.Role.TheVariants.{Server, Client}

@@ -1,4 +1,4 @@
-use Rattle.std.proofs.Common.{◌≤◌, sym, ap, ◌∙◌, subst}
+use Rattle.std.proofs.Common.{sym, ap, ◌∙◌, subst}
 use Rattle.mt_base.specs.Trace.{Start, ◌▷◌}
 use Rattle.carrier.specs.Entries.{In}
 use Rattle.link_core.specs.CoreView.{Stands, link_layout}
