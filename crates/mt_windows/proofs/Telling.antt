@@ -1,6 +1,5 @@
 -- Lemmas on tellings.
 use Rattle.std.proofs.Common.{◌≡◌, ℕ, zero, suc, ◌+◌, ◌-◌, ◌<◌, ◌≤◌, ◌⊎◌, inl, inr, Bool, true, false, not, eqb, ltb, leb, cond, ◌||◌, ◌&&◌, List, length, get_or, Option, Some, None, is_some, IsSome, refl, sym, ap, ◌∙◌, subst, arith}
-use Rattle.std.proofs.lemmas.List.{get_or_read}
 use Rattle.std.proofs.lemmas.Bool.{cases_lt, cases_eq}
 use Rattle.std.proofs.lemmas.Bool.Decides.{nat_tests}
 use Rattle.mt_base.specs.Trace.{Trace, ◌▷◌}
@@ -383,11 +382,11 @@ transmission_old w first t number h low high old =
     off true b e = e
     off false b e = refl
 
-pub carried_is : (w : Outbox) (first : ℕ) (t : Trace Act) (number i place : ℕ) → Sends w first t → w.first ≤ number → number < w.first + w.made → w.first + w.made - number ≤ length w.carried → i ≡ length w.carried - (w.first + w.made - number) → place ≡ get_or w.carried i place → part_of t (number - first) ≡ place
+pub carried_is : (w : Outbox) (first : ℕ) (t : Trace Act) (number i place : ℕ) → Sends w first t → w.first ≤ number → number < w.first + w.made → w.first + w.made - number ≤ length w.carried → i ≡ length w.carried - (w.first + w.made - number) → place ≡ get_or w.carried i 0 → part_of t (number - first) ≡ place
 carried_is w first t number i place h low high recent e read =
     let l : i < length w.carried = omega (arith, e, high, recent) in
     let j : w.made - length w.carried + i ≡ number - first = omega (arith, e, h.first_is, h.remembers.size, low, high, recent) in
-    sym (get_or_read w.carried i place l read 0 ∙ h.remembers.parts i l ∙ ap (part_of t) j)
+    sym (read ∙ h.remembers.parts i l ∙ ap (part_of t) j)
 
 pub told_recent : (w : Outbox) (first : ℕ) (t : Trace Act) (number : ℕ) → Sends w first t → w.first ≤ number → number < w.first + w.made → w.first + w.made - number ≤ length w.carried → is_recent limits t (number - first) ≡ true
 told_recent w first t number h low high recent =

@@ -1,55 +1,33 @@
-//! Queues of a fixed capacity.
+//! Rings of a fixed capacity.
 
-ghost use Rattle.std.specs.Prelude.{◌≡◌, ◌+◌, ◌-◌, ◌<◌, ◌≤◌, ◌++◌, ◌∷◌, [], length, take, drop};
-ghost use Rattle.std.specs.VecDeque.{deque_len, deque_capacity};
+ghost use Rattle.std.specs.Prelude.{◌≡◌, ◌+◌, ◌-◌, ◌≤◌, ◌++◌, ◌∷◌, [], length, min, take, drop};
 
-use std::collections::VecDeque;
+use circular_buffer::HeapCircularBuffer;
 
 /// Puts these bytes at the end, where there is room for them.
-pub fn append(queue: &mut VecDeque<u8>, bytes: &[u8])
-    requires { length queue.old.items + length bytes.now ≤ deque_capacity queue.old }
+pub fn append(queue: &mut HeapCircularBuffer<u8>, bytes: &[u8])
+    requires { length queue.old.items + length bytes.now ≤ queue.old.capacity }
     ensures items { queue.new.items ≡ queue.old.items ++ bytes.now }
-    ensures capacity { deque_capacity queue.old ≤ deque_capacity queue.new }
+    ensures capacity { queue.new.capacity ≡ queue.old.capacity }
 {
-    for byte in bytes {
-        match queue.push_back(*byte) {
-            Ok(()) => {}
-            Err(_) => unreachable!(),
-        }
-    }
+    let _ = queue.fill_from_slice(bytes);
 }
 
-/// Takes so many bytes from the front.
-pub fn take_front(queue: &mut VecDeque<u8>, count: usize, out: &mut [u8; 1000])
-    requires there { count ≤ length queue.old.items }
-    requires fits { count ≤ 1000 }
-    ensures items { queue.new.items ≡ drop count queue.old.items }
-    ensures bytes { take count out.new ≡ take count queue.old.items }
-    ensures rest { drop count out.new ≡ drop count out.old }
-    ensures capacity { deque_capacity queue.old ≤ deque_capacity queue.new }
+/// Takes as many bytes from the front as there are and fit; how many.
+pub fn take_front(queue: &mut HeapCircularBuffer<u8>, out: &mut [u8; 1000]) -> usize
+    ensures count { result ≡ min (length queue.old.items) 1000 }
+    ensures items { queue.new.items ≡ drop result queue.old.items }
+    ensures bytes { take result out.new ≡ take result queue.old.items }
+    ensures rest { drop result out.new ≡ drop result out.old }
+    ensures capacity { queue.new.capacity ≡ queue.old.capacity }
 {
-    for place in 0..count {
-        match queue.pop_front() {
-            Some(byte) => out[place] = byte,
-            None => unreachable!(),
-        }
-    }
+    queue.read_into(out)
 }
 
-/// Puts a number at the end of a queue of at most `limit` ones, and lets the oldest go where it was
-/// full.
-pub fn remember(queue: &mut VecDeque<u64>, limit: usize, number: u64)
-    requires some { 0 < limit }
-    requires room { limit ≤ deque_capacity queue.old }
-    requires size { length queue.old.items ≤ limit }
-    ensures items { queue.new.items ≡ drop (length queue.old.items + 1 - limit) (queue.old.items ++ number ∷ []) }
-    ensures capacity { deque_capacity queue.old ≤ deque_capacity queue.new }
+/// Puts a number at the end, and lets the oldest go where the ring was full.
+pub fn remember(queue: &mut HeapCircularBuffer<u64>, number: u64)
+    ensures items { queue.new.items ≡ drop (length queue.old.items + 1 - queue.old.capacity) (queue.old.items ++ number ∷ []) }
+    ensures capacity { queue.new.capacity ≡ queue.old.capacity }
 {
-    if queue.len() == limit {
-        let _ = queue.pop_front();
-    }
-    match queue.push_back(number) {
-        Ok(()) => {}
-        Err(_) => unreachable!(),
-    }
+    let _ = queue.push_back(number);
 }

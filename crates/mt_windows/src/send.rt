@@ -3,17 +3,17 @@
 ghost use Rattle.std.specs.Prelude.{◌≡◌, ◌+◌, ◌-◌, ◌<◌, ◌≤◌, ◌^◌, ◌⊎◌, ◌&&◌, ◌==◌, ℕ, Bool, List, true, not, nat_lt, nat_le, if◌then◌else◌, length, take, drop, option_map, IfOk, IfSome, OnOk, OnErr, IsSome, is_some};
 ghost use Rattle.mt_base.specs.Trace.{Trace, Start, ◌▷◌};
 ghost use Rattle.mt_windows.specs.Sending.Act.{Gave, Cut, Resent};
-ghost use Rattle.mt_windows.specs.Sending.{Act, cuts, transmissions, next_piece, piece, queued, may_cut, reach, lowest, lowest_or_next, passed_over, floor_transmission, settles_part, settles_transmission, tells_part, tells_transmission};
+ghost use Rattle.mt_windows.specs.Sending.{Act, cuts, transmissions, next_piece, piece, queued, may_cut, reach, lowest, lowest_or_next, passed_over, floor_transmission, waiting, settles_part, settles_transmission, tells_part, tells_transmission};
 ghost use Rattle.mt_windows.specs.FlightView.{slot_at};
 ghost use Rattle.mt_windows.specs.SendingView.{Sends, limits, queued_of, reach_of, next_transmission, is_unsettled, may_cut_of, heard_of, Flying, IsRebased, landed, past_flight};
 
 use crate::flight::Flight;
 use crate::flights::{bytes_in, clear_flights, empty_flights};
-use crate::limits::{NUMBERS, PART, QUEUE, SPAN, WINDOW};
+use crate::limits::{NUMBERS, QUEUE, SPAN, WINDOW};
 use crate::queue::{append, remember, take_front};
+use circular_buffer::HeapCircularBuffer;
 use mt_base::{NoMemory, Width};
 use std::alloc::Global;
-use std::collections::VecDeque;
 use std::marker::{Model, PhantomData};
 
 /// The bytes do not fit: so many bytes were given and are not settled.
@@ -34,7 +34,7 @@ pub struct Sent {
 #[derive(Drop)]
 pub struct SendWindow<W: Width> {
     first: u64,
-    waiting: VecDeque<u8>,
+    waiting: HeapCircularBuffer<u8>,
     base: u64,
     cut: u64,
     made: u64,
@@ -42,13 +42,12 @@ pub struct SendWindow<W: Width> {
     second: u64,
     third: u64,
     flights: Vec<Flight>,
-    carried: VecDeque<u64>,
+    carried: HeapCircularBuffer<u64>,
     width: PhantomData<W>,
 }
 
 impl<W: Width> Model for SendWindow<W> {
-    ghost use Rattle.std.specs.Prelude.{◌≤◌};
-    ghost use Rattle.std.specs.VecDeque.{deque_capacity};
+    ghost use Rattle.std.specs.Prelude.{◌≡◌};
     ghost use Rattle.mt_windows.specs.declared.limits.TheConstants.{QUEUE, SPAN};
     ghost use Rattle.mt_windows.specs.SendingView.{Outbox, IsSoundOut};
 
@@ -56,7 +55,7 @@ impl<W: Width> Model for SendWindow<W> {
 
     ghost view = { λ w. record { first = w.first; waiting = w.waiting.items; base = w.base; cut = w.cut; made = w.made; told = w.told; second = w.second; third = w.third; flights = w.flights.items; carried = w.carried.items } };
 
-    ghost invariant = { λ w. record { sound : IsSoundOut (record { first = w.first; waiting = w.waiting.items; base = w.base; cut = w.cut; made = w.made; told = w.told; second = w.second; third = w.third; flights = w.flights.items; carried = w.carried.items }); room : QUEUE ≤ deque_capacity w.waiting; memory : SPAN ≤ deque_capacity w.carried } };
+    ghost invariant = { λ w. record { sound : IsSoundOut (record { first = w.first; waiting = w.waiting.items; base = w.base; cut = w.cut; made = w.made; told = w.told; second = w.second; third = w.third; flights = w.flights.items; carried = w.carried.items }); room : w.waiting.capacity ≡ QUEUE; memory : w.carried.capacity ≡ SPAN } };
 }
 
 impl<W: Width> SendWindow<W> {
@@ -67,9 +66,9 @@ impl<W: Width> SendWindow<W> {
         ensures stands { IfOk result (λ w. Sends w first Start) }
         ensures queued { IfOk result (λ w. queued_of w ≡ 0) }
     {
-        let waiting = VecDeque::with_capacity(alloc, QUEUE)?;
+        let waiting = HeapCircularBuffer::with_capacity(alloc, QUEUE)?;
         let flights = empty_flights(alloc, WINDOW as usize)?;
-        let carried = VecDeque::with_capacity(alloc, SPAN as usize)?;
+        let carried = HeapCircularBuffer::with_capacity(alloc, SPAN as usize)?;
         Ok(SendWindow {
             first,
             waiting,
@@ -117,6 +116,14 @@ impl<W: Width> SendWindow<W> {
         }
         append(&mut self.waiting, bytes);
         Ok(())
+    }
+
+    /// The bytes that were given and not yet cut, in order.
+    pub fn waiting(&self) -> &HeapCircularBuffer<u8>
+        ensures history { (first : ℕ) (t : Trace Act) → Sends self.now first t → result.now.items ≡ waiting limits t }
+        ensures capacity { result.now.capacity ≡ 2097152 }
+    {
+        &self.waiting
     }
 
     /// How many bytes were given and are not in a settled part.
@@ -241,13 +248,12 @@ impl<W: Width> SendWindow<W> {
         ensures queued { queued_of self.new ≤ queued_of self.old }
         ensures fits { result.length ≤ 1000 }
     {
-        let length = self.waiting.len().min(PART);
-        take_front(&mut self.waiting, length, out);
+        let length = take_front(&mut self.waiting, out);
         let flight = &mut self.flights[(self.cut - self.base) as usize];
         flight.slot.fill(&out[..length]);
         flight.earliest = self.made;
         flight.latest = self.made;
-        remember(&mut self.carried, SPAN as usize, self.cut);
+        remember(&mut self.carried, self.cut);
         let sent = Sent {
             part: self.first + self.cut,
             transmission: self.first + self.made,
@@ -276,7 +282,7 @@ impl<W: Width> SendWindow<W> {
         let bytes = flight.slot.bytes();
         let length = bytes.len();
         out[..length].copy_from_slice(bytes);
-        remember(&mut self.carried, SPAN as usize, part - self.first);
+        remember(&mut self.carried, part - self.first);
         let transmission = self.first + self.made;
         self.made += 1;
         Sent {
@@ -315,11 +321,10 @@ impl<W: Width> SendWindow<W> {
             return false;
         }
         let count = transmission - self.first;
-        let back = self.made - count;
-        if back > self.carried.len() as u64 {
+        let back = (self.made - count - 1) as usize;
+        let Some(place) = self.carried.nth_back(back).copied() else {
             return false;
-        }
-        let place = self.carried[self.carried.len() - back as usize];
+        };
         self.hear(count);
         if !self.is_flying(place) {
             return false;

@@ -28,7 +28,7 @@ returns-clause-holds g c first t h =
     let number : c.args.part - w.first ≡ c.args.part - first = ap (λ n. c.args.part - n) now.first_is in
     resend_step v first t k (c.args.part - first) _ _ now i.base_bound (omega (arith, i.places, i.cut_bound)) (omega (arith, i.places, i.cut_bound, there.0, there.1)) (omega (arith, there.0, now.first_is)) (omega (arith, there.0, there.1, now.first_is))
     (ap (λ (f : Flight). set w.flights.items k (record f { latest = w.made })) read)
-    (c.remember.ensures.items ∙ ap (λ n. drop (length w.carried.items + 1 - 4096) (w.carried.items ++ n ∷ [])) number)
+    (c.remember.ensures.items ∙ ap (λ n. drop (length w.carried.items + 1 - n) (w.carried.items ++ (c.args.part - w.first) ∷ [])) c.self.invariant.memory ∙ ap (λ n. drop (length w.carried.items + 1 - 4096) (w.carried.items ++ n ∷ [])) number)
 
 pub returns-clause-queued : goal.returns-clause-queued
 returns-clause-queued g c =
