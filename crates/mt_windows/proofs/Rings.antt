@@ -1,9 +1,13 @@
 -- Lemmas on rings.
-use Rattle.std.proofs.Common.{◌≡◌, ℕ, ◌-◌, ◌<◌, ◌≤◌, ◌⊎◌, inl, inr, ltb, cond, true, false, List, length, get_or, Option, Some, None, sym, ap, ◌∙◌, arith}
+use Rattle.std.proofs.Common.{◌≡◌, ℕ, suc, ◌+◌, ◌-◌, ◌<◌, ◌≤◌, ◌⊎◌, inl, inr, ltb, cond, true, false, List, [], ◌∷◌, ◌++◌, length, get_or, take, drop, Option, Some, None, refl, sym, ap, ◌∙◌, arith}
 use Rattle.std.specs.List.{slice_get}
+use Rattle.std.specs.Borrow.{MutBor}
+use Rattle.std.specs.Option.{option_copied_mut}
 use Rattle.std.proofs.lemmas.Bool.{cases_lt}
 use Rattle.std.proofs.lemmas.Bool.Decides.{nat_tests}
 use Rattle.std.proofs.lemmas.Option.{slice_get-get_or}
+use Rattle.std.proofs.lemmas.List.{length_push}
+use Rattle.mt_windows.specs.declared.flight.Flight.{Flight}
 
 -- ---- the number that stands so many places from the back
 pub back_there : (xs : List ℕ) (b : ℕ) → b < length xs → cond (ltb b (length xs)) (slice_get xs (length xs - b - 1)) None ≡ Some (get_or xs (length xs - b - 1) 0)
@@ -29,3 +33,23 @@ back_some xs b o x is some = by_size (cases_lt b (length xs))
     by_size : (b < length xs) ⊎ (length xs ≤ b) → (b < length xs) × (x ≡ get_or xs (length xs - b - 1) 0)
     by_size (inl l) = (l, let e = sym some ∙ is ∙ back_there xs b l in cc)
     by_size (inr l) = absurd (let e = sym some ∙ is ∙ back_missing xs b l in cc)
+
+-- ---- a place that is there is not missing
+pub missing_flight : (xs : List Flight) (k : ℕ) (o : Option (MutBor Flight)) → k < length xs → option_copied_mut o ≡ slice_get xs k → o ≡ None → ⊥
+missing_flight xs k o l is none =
+    let there = slice_get-get_or xs k (record { slot = None; earliest = 0; latest = 0 }) l in
+    let e : None ≡ slice_get xs k = sym (ap option_copied_mut none) ∙ is in
+    let f : None ≡ Some (get_or xs k (record { slot = None; earliest = 0; latest = 0 })) = e ∙ there in
+    absurd (cc)
+
+-- ---- a full ring turns by one place
+pub turned : {X : Type 0} (xs : List X) (x : X) → slice_get xs 0 ≡ Some x → drop (length (drop 1 xs ++ x ∷ []) - length xs) (drop 1 xs ++ x ∷ []) ≡ drop 1 xs ++ take 1 xs
+turned [] x h = absurd (cc)
+turned (y ∷ xs) x h =
+    let none : length (xs ++ x ∷ []) - suc (length xs) ≡ 0 = omega (arith, length_push xs x) in
+    let same : y ≡ x = (cc) in
+    ap (λ n. drop n (xs ++ x ∷ [])) none ∙ ap (λ z. xs ++ z ∷ []) (sym same)
+
+pub length_turned : {X : Type 0} (xs : List X) → length (drop 1 xs ++ take 1 xs) ≡ length xs
+length_turned [] = refl
+length_turned (x ∷ xs) = length_push xs x ∙ (let e : length xs + 1 ≡ suc (length xs) = omega arith in e)

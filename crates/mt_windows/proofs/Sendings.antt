@@ -1,5 +1,5 @@
 -- Lemmas on a part that is cut, and one that is sent again.
-use Rattle.std.proofs.Common.{◌≡◌, ℕ, ◌+◌, ◌-◌, ◌^◌, ◌<◌, ◌≤◌, ◌⊎◌, inl, inr, Bool, true, false, not, eqb, ltb, leb, cond, ◌&&◌, List, [], ◌∷◌, ◌++◌, length, take, drop, set, min, Option, Some, None, IsSome, unwrap_or, refl, sym, ap, ◌∙◌, subst, arith, length-append, length-drop, length-take}
+use Rattle.std.proofs.Common.{◌≡◌, ℕ, suc, ◌+◌, ◌-◌, ◌*◌, ◌^◌, ◌<◌, ◌≤◌, ◌⊎◌, inl, inr, Bool, true, false, not, eqb, ltb, leb, cond, ◌&&◌, List, [], ◌∷◌, ◌++◌, length, take, drop, set, min, Option, Some, None, IsSome, unwrap_or, refl, sym, ap, ◌∙◌, subst, arith, length-append, length-drop, length-take}
 use Rattle.std.proofs.lemmas.List.{drop-drop, get_or-set_same, get_or-set_other, length_push, get_or_append_left, get_or_push, length-set, take_min}
 use Rattle.std.proofs.lemmas.Bool.{cases_lt, cases_eq}
 use Rattle.std.proofs.lemmas.Bool.Decides.{nat_tests}
@@ -276,3 +276,20 @@ pub cut_bytes : (ws out : List ℕ) (n : ℕ) → n ≡ min (length ws) 1000 →
 cut_bytes ws out n e same =
     let m : n ≡ min 1000 (length ws) = omega arith in
     (same ∙ ap (λ k. take k ws) m ∙ take_min 1000 ws, omega (arith, ap length same, length-take n ws))
+
+-- a part that a further transmission carries keeps its bytes
+pub carried_slot : (xs : List Flight) (k made : ℕ) (ys : List Flight) (f : Flight) → k < length xs → ys ≡ set xs k (record (flight_at xs k) { latest = made }) → f ≡ flight_at ys k → f.slot ≡ slot_at xs k
+carried_slot xs k made ys f l is read =
+    ap (λ (g : Flight). g.slot) (read ∙ ap (λ zs. flight_at zs k) is ∙ get_or-set_same xs k (record (flight_at xs k) { latest = made }) (record { slot = None; earliest = 0; latest = 0 }) l)
+
+-- ---- the bytes in flight
+pub bytes_bound : (xs : List Flight) (made : ℕ) → ((k : ℕ) → IsFlight (slot_at xs k) (flight_at xs k).latest made) → bytes_in xs ≤ 1000 * length xs
+bytes_bound [] made h = omega arith
+bytes_bound (x ∷ xs) made h = omega (arith, bytes_bound xs made (λ k. h (suc k)), part_bound x.slot x.latest made (h 0))
+  where
+    part_bound : (p : Option (List ℕ)) (late made : ℕ) → IsFlight p late made → length (unwrap_or p []) ≤ 1000
+    part_bound None late made h = omega arith
+    part_bound (Some bytes) late made h = h.0
+
+pub flights_bound : (w : Outbox) → IsSoundOut w → bytes_in w.flights ≤ 64000
+flights_bound w i = omega (arith, bytes_bound w.flights w.made i.fits, i.places)

@@ -7,8 +7,7 @@ ghost use Rattle.mt_windows.specs.Sending.{Act, cuts, transmissions, next_piece,
 ghost use Rattle.mt_windows.specs.FlightView.{slot_at};
 ghost use Rattle.mt_windows.specs.SendingView.{Sends, limits, queued_of, reach_of, next_transmission, is_unsettled, may_cut_of, heard_of, Flying, IsRebased, landed, past_flight};
 
-use crate::flight::Flight;
-use crate::flights::{bytes_in, clear_flights, empty_flights};
+use crate::flights::Flights;
 use crate::limits::{NUMBERS, QUEUE, SPAN, WINDOW};
 use crate::queue::{append, remember, take_front};
 use circular_buffer::HeapCircularBuffer;
@@ -41,7 +40,7 @@ pub struct SendWindow<W: Width> {
     told: u64,
     second: u64,
     third: u64,
-    flights: Vec<Flight>,
+    flights: Flights,
     carried: HeapCircularBuffer<u64>,
     width: PhantomData<W>,
 }
@@ -53,9 +52,9 @@ impl<W: Width> Model for SendWindow<W> {
 
     ghost Value = { Outbox };
 
-    ghost view = { λ w. record { first = w.first; waiting = w.waiting.items; base = w.base; cut = w.cut; made = w.made; told = w.told; second = w.second; third = w.third; flights = w.flights.items; carried = w.carried.items } };
+    ghost view = { λ w. record { first = w.first; waiting = w.waiting.items; base = w.base; cut = w.cut; made = w.made; told = w.told; second = w.second; third = w.third; flights = w.flights; carried = w.carried.items } };
 
-    ghost invariant = { λ w. record { sound : IsSoundOut (record { first = w.first; waiting = w.waiting.items; base = w.base; cut = w.cut; made = w.made; told = w.told; second = w.second; third = w.third; flights = w.flights.items; carried = w.carried.items }); room : w.waiting.capacity ≡ QUEUE; memory : w.carried.capacity ≡ SPAN } };
+    ghost invariant = { λ w. record { sound : IsSoundOut (record { first = w.first; waiting = w.waiting.items; base = w.base; cut = w.cut; made = w.made; told = w.told; second = w.second; third = w.third; flights = w.flights; carried = w.carried.items }); room : w.waiting.capacity ≡ QUEUE; memory : w.carried.capacity ≡ SPAN } };
 }
 
 impl<W: Width> SendWindow<W> {
@@ -67,7 +66,7 @@ impl<W: Width> SendWindow<W> {
         ensures queued { IfOk result (λ w. queued_of w ≡ 0) }
     {
         let waiting = HeapCircularBuffer::with_capacity(alloc, QUEUE)?;
-        let flights = empty_flights(alloc, WINDOW as usize)?;
+        let flights = Flights::new(alloc)?;
         let carried = HeapCircularBuffer::with_capacity(alloc, SPAN as usize)?;
         Ok(SendWindow {
             first,
@@ -100,7 +99,7 @@ impl<W: Width> SendWindow<W> {
         self.third = 0;
         self.waiting.clear();
         self.carried.clear();
-        clear_flights(&mut self.flights);
+        self.flights.clear();
     }
 
     /// Takes all of these bytes, or says how many are queued where they would pass the limit.
@@ -144,7 +143,7 @@ impl<W: Width> SendWindow<W> {
         ensures base { self.now.base ≤ self.now.cut }
         ensures places { self.now.cut ≤ self.now.base + length self.now.flights }
     {
-        self.waiting.len() + bytes_in(&self.flights)
+        self.waiting.len() + self.flights.bytes()
     }
 
     /// How many transmissions were made past the greatest one known as told.
@@ -178,7 +177,7 @@ impl<W: Width> SendWindow<W> {
         ensures history { (first : ℕ) (t : Trace Act) → Sends self.now first t → result ≡ option_map (λ p. first + p) (lowest limits t) }
         ensures unsettled { IfSome result (λ p. is_unsettled self.now p ≡ true) }
     {
-        if self.base < self.cut && self.flights[0].slot.is_filled() {
+        if self.base < self.cut && self.flights.get(0).slot.is_filled() {
             Some(self.first + self.base)
         } else {
             None
@@ -198,7 +197,12 @@ impl<W: Width> SendWindow<W> {
         ensures { (first : ℕ) (t : Trace Act) → Sends self.now first t → result ≡ first + floor_transmission limits t }
     {
         if self.base < self.cut {
-            self.first + self.flights[0].earliest.max(self.made.saturating_sub(SPAN))
+            self.first
+                + self
+                    .flights
+                    .get(0)
+                    .earliest
+                    .max(self.made.saturating_sub(SPAN))
         } else {
             self.first + self.made
         }
@@ -210,7 +214,7 @@ impl<W: Width> SendWindow<W> {
         ensures unsettled { IfSome result (λ p. is_unsettled self.now p ≡ true) }
     {
         for ahead in 0..self.cut - self.base {
-            let flight = &self.flights[ahead as usize];
+            let flight = self.flights.get(ahead as usize);
             if flight.slot.is_filled() && flight.latest + 1 < self.third {
                 return Some(self.first + self.base + ahead);
             }
@@ -249,10 +253,8 @@ impl<W: Width> SendWindow<W> {
         ensures fits { result.length ≤ 1000 }
     {
         let length = take_front(&mut self.waiting, out);
-        let flight = &mut self.flights[(self.cut - self.base) as usize];
-        flight.slot.fill(&out[..length]);
-        flight.earliest = self.made;
-        flight.latest = self.made;
+        let ahead = (self.cut - self.base) as usize;
+        self.flights.fill(ahead, &out[..length], self.made);
         remember(&mut self.carried, self.cut);
         let sent = Sent {
             part: self.first + self.cut,
@@ -277,9 +279,9 @@ impl<W: Width> SendWindow<W> {
         ensures fits { result.length ≤ 1000 }
         ensures near { self.old.first + self.old.cut ≤ part + 64 }
     {
-        let flight = &mut self.flights[(part - self.first - self.base) as usize];
-        flight.latest = self.made;
-        let bytes = flight.slot.bytes();
+        let ahead = (part - self.first - self.base) as usize;
+        self.flights.carry(ahead, self.made);
+        let bytes = self.flights.get(ahead).slot.bytes();
         let length = bytes.len();
         out[..length].copy_from_slice(bytes);
         remember(&mut self.carried, part - self.first);
@@ -302,10 +304,11 @@ impl<W: Width> SendWindow<W> {
             return false;
         }
         let ahead = (part - self.first - self.base) as usize;
-        if !self.flights[ahead].slot.is_filled() {
+        let flight = self.flights.get(ahead);
+        if !flight.slot.is_filled() {
             return false;
         }
-        let latest = self.flights[ahead].latest;
+        let latest = flight.latest;
         self.hear(latest);
         self.settle(ahead);
         true
@@ -340,7 +343,11 @@ impl<W: Width> SendWindow<W> {
     {
         self.base <= place
             && place < self.cut
-            && self.flights[(place - self.base) as usize].slot.is_filled()
+            && self
+                .flights
+                .get((place - self.base) as usize)
+                .slot
+                .is_filled()
     }
 
     /// Takes that a transmission is known as told.
@@ -384,8 +391,7 @@ impl<W: Width> SendWindow<W> {
         ensures landed { self.new ≡ landed self.old ahead }
         ensures within { ahead < length self.old.flights }
     {
-        let flight = &mut self.flights[ahead];
-        flight.slot.clear();
+        self.flights.land(ahead);
     }
 
     /// Whether the lowest part that is kept is settled.
@@ -394,7 +400,7 @@ impl<W: Width> SendWindow<W> {
         ensures places { self.now.cut ≤ self.now.base + length self.now.flights }
         ensures settled { result ≡ nat_lt self.now.base self.now.cut && not (is_some (slot_at self.now.flights 0)) }
     {
-        self.base < self.cut && !self.flights[0].slot.is_filled()
+        self.base < self.cut && !self.flights.get(0).slot.is_filled()
     }
 
     /// Moves on by one part.
@@ -403,7 +409,7 @@ impl<W: Width> SendWindow<W> {
         requires there { self.old.base < self.old.cut }
         ensures { self.new ≡ past_flight self.old }
     {
-        self.flights.rotate_left(1);
+        self.flights.turn();
         self.base += 1;
     }
 

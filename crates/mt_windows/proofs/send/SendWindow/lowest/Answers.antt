@@ -1,5 +1,4 @@
-use Rattle.std.proofs.Common.{None, sym, subst, arith}
-use Rattle.std.proofs.lemmas.List.{get_or_read}
+use Rattle.std.proofs.Common.{sym, subst}
 use Rattle.mt_windows.specs.SendingView.{Sends}
 use Rattle.mt_windows.proofs.InFlight.{lowest_some, lowest_none, lowest_empty}
 use Rattle.mt_windows.proofs.send.SendWindow.lowest.Goals as goal
@@ -12,7 +11,6 @@ pub returns-else-self-clause-history : goal.returns-else-self-clause-history
 returns-else-self-clause-history g c first t h =
     let now = subst (λ w. Sends w first t) (sym c.self.view_is) h in
     elim c.else-self.branch [
-      | else-self-via-then-self+else-is_filled w ↦ lowest_empty _ first t w.index.result.now now
-          (get_or_read c.self.inside.flights.items 0 w.index.result.now (omega (arith, c.self.invariant.sound.places)) w.index.ensures (record { slot = None; earliest = 0; latest = 0 })) (sym w.if-is_filled.ensures)
+      | else-self-via-then-self+else-is_filled w ↦ lowest_empty _ first t w.get.result.now now w.get.ensures (sym w.if-is_filled.ensures)
       | else-self-via-else-self w ↦ lowest_none _ first t now w.if-self.false
     ]

@@ -1,5 +1,4 @@
-use Rattle.std.proofs.Common.{◌+◌, ◌&&◌, ltb, is_some, None, sym, ap, ◌∙◌, subst, arith}
-use Rattle.std.proofs.lemmas.List.{get_or_read}
+use Rattle.std.proofs.Common.{◌+◌, ◌&&◌, ltb, is_some, sym, ap, ◌∙◌, subst, arith}
 use Rattle.mt_windows.specs.declared.flight.Flight.{Flight}
 use Rattle.mt_windows.specs.SendingView.{Sends}
 use Rattle.mt_windows.proofs.InFlight.{passed_found, passed_none}
@@ -8,9 +7,9 @@ use Rattle.mt_windows.proofs.send.SendWindow.passed_over.Goals as goal
 
 pub returns-then-flight-self-clause-history : goal.returns-then-flight-self-clause-history
 returns-then-flight-self-clause-history g c first t h =
-    let f = c.index-flight.result.now in
+    let f = c.get-flight.result.now in
     let third = c.self.inside.third in
-    let read = get_or_read c.self.inside.flights.items c.loop-ahead.ahead f (omega (arith, c.self.invariant.sound.places, c.self.invariant.sound.cut_bound)) c.index-flight.ensures (record { slot = None; earliest = 0; latest = 0 }) in
+    let read = c.get-flight.ensures in
     passed_found _ first t c.loop-ahead.ahead (subst (λ w. Sends w first t) (sym c.self.view_is) h) c.loop-ahead.invariant (omega arith)
     (sym (ap (λ (x : Flight). is_some x.slot && ltb (x.latest + 1) third) read) ∙ both (is_some f.slot) f.latest third (sym c.if-is_filled.ensures) c.if-flight-self.true)
 

@@ -4,4 +4,4 @@ use Rattle.mt_windows.proofs.send.SendWindow.passed_over.Given as goal
 
 abbrev pub invariant-loop-ahead : goal.invariant-loop-ahead
 invariant-loop-ahead g l =
-    (j : ℕ) → j < l.ahead → is_some (slot_at l.self-inside.flights.items j) && ltb ((flight_at l.self-inside.flights.items j).latest + 1) l.self-inside.third ≡ false
+    (j : ℕ) → j < l.ahead → is_some (slot_at l.self-inside.flights j) && ltb ((flight_at l.self-inside.flights j).latest + 1) l.self-inside.third ≡ false
