@@ -1,6 +1,6 @@
 -- Lemmas on parts that arrive in any order.
-use Rattle.std.proofs.Common.{◌≡◌, ◌≢◌, ℕ, zero, suc, ◌+◌, ◌-◌, ◌<◌, ◌≤◌, ◌⊎◌, inl, inr, Bool, true, false, eqb, ltb, leb, cond, List, [], ◌∷◌, ◌++◌, length, get_or, take, drop, set, replicate, max, Option, Some, None, is_some, unwrap_or, refl, sym, ap, ◌∙◌, subst, append_assoc, append-nil, arith, length-append, length-drop}
-use Rattle.std.proofs.lemmas.List.{drop-drop, get_or-drop, get_or-set_same, get_or-set_other, drop-append-le, drop_at, drop_all, get_or_past, get_or_read, length-take-le}
+use Rattle.std.proofs.Common.{◌≡◌, ◌≢◌, ℕ, zero, suc, ◌+◌, ◌-◌, ◌<◌, ◌≤◌, ◌⊎◌, inl, inr, Bool, true, false, eqb, ltb, leb, cond, List, [], ◌∷◌, ◌++◌, length, take, drop, set, replicate, max, Option, Some, None, is_some, unwrap_or, refl, sym, ap, ◌∙◌, subst, append_assoc, append-nil, arith, length-append, length-drop}
+use Rattle.std.proofs.lemmas.List.{drop-drop, get_or-drop, get_or-set_same, get_or-set_other, drop-append-le, drop_at, drop_all, get_or_past, length-take-le}
 use Rattle.std.proofs.Math.Seq.{take-add, take-append-add, drop-append-add}
 use borrow.Rule.Slice.PartMut.{put_mid}
 use Rattle.std.proofs.lemmas.Bool.{cases_eq}
@@ -298,9 +298,9 @@ pub accepted : (w k v : Inbox) (first : ℕ) (parts : Parts) (n part ahead : ℕ
 accepted w k v first parts n part ahead bytes h e l place passes =
     passes first (put parts (part - first) bytes) n (subst (λ u. Keeps u first (put parts (part - first) bytes) n) (sym e) (keeps_kept w first parts n part ahead bytes h l place))
 
-pub missing : (xs : Parts) (i : ℕ) (p : Option (List ℕ)) → p ≡ get_or xs i p → i < length xs → is_some p ≡ false → part_at xs i ≡ None
-missing xs i None e l h = sym (get_or_read xs i None l e None)
-missing xs i (Some bytes) e l h = absurd (cc)
+pub missing : (p : Option (List ℕ)) → is_some p ≡ false → p ≡ None
+missing None h = refl
+missing (Some bytes) h = absurd (cc)
 
 pub adds : (w k v : Inbox) (part ahead : ℕ) (bytes : List ℕ) → k ≡ kept w part ahead bytes → part_at w.slots ahead ≡ None → IsWithin (part_at w.slots 0) w.used → left_of v ≡ left_of k → (more : List ℕ) × (left_of v ≡ left_of w ++ more)
 adds w k v part ahead bytes e none within same =

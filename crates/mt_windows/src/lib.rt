@@ -17,6 +17,7 @@ mod receive;
 mod seen;
 mod send;
 mod slot;
+mod slots;
 
 pub use laws::{
     parts_are_pieces, parts_arrive_once, queued_or_settled, seen_was_noted, settled_was_told,

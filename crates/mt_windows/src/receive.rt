@@ -5,7 +5,7 @@ ghost use Rattle.mt_windows.specs.Arrived.{Parts, part_at, passed, drained, grea
 ghost use Rattle.mt_windows.specs.ArrivedView.{IsWithin, Keeps, Receives, left_of, kept, is_drained, past_front};
 
 use crate::limits::WINDOW;
-use crate::slot::{Slot, clear_all, empty_slots};
+use crate::slots::Slots;
 use mt_base::{NoMemory, Width};
 use std::alloc::Global;
 use std::marker::{Model, PhantomData};
@@ -28,7 +28,7 @@ pub struct ReceiveWindow<W: Width> {
     passed: u64,
     used: usize,
     greatest: Option<u64>,
-    slots: Vec<Slot>,
+    slots: Slots,
     width: PhantomData<W>,
 }
 
@@ -38,9 +38,9 @@ impl<W: Width> Model for ReceiveWindow<W> {
 
     ghost Value = { Inbox };
 
-    ghost view = { λ w. record { first = w.first; passed = w.passed; used = w.used; greatest = w.greatest; slots = w.slots.items } };
+    ghost view = { λ w. record { first = w.first; passed = w.passed; used = w.used; greatest = w.greatest; slots = w.slots } };
 
-    ghost invariant = { λ w. IsSound WINDOW (record { first = w.first; passed = w.passed; used = w.used; greatest = w.greatest; slots = w.slots.items }) };
+    ghost invariant = { λ w. IsSound WINDOW (record { first = w.first; passed = w.passed; used = w.used; greatest = w.greatest; slots = w.slots }) };
 }
 
 impl<W: Width> ReceiveWindow<W> {
@@ -50,7 +50,7 @@ impl<W: Width> ReceiveWindow<W> {
         requires below { first < 2 ^ 33 }
         ensures { IfOk result (λ w. Receives w first [] 0) }
     {
-        let slots = empty_slots(alloc, WINDOW as usize)?;
+        let slots = Slots::new(alloc)?;
         Ok(ReceiveWindow {
             first,
             passed: 0,
@@ -72,7 +72,7 @@ impl<W: Width> ReceiveWindow<W> {
         self.passed = 0;
         self.used = 0;
         self.greatest = None;
-        clear_all(&mut self.slots);
+        self.slots.clear();
     }
 
     /// The number of the least part that was not handed out in full.
@@ -103,7 +103,7 @@ impl<W: Width> ReceiveWindow<W> {
             return true;
         }
         let ahead = place - self.passed;
-        ahead < WINDOW && self.slots[ahead as usize].is_filled()
+        ahead < WINDOW && self.slots.get(ahead as usize).is_filled()
     }
 
     /// Takes a part of at most 1,232 bytes, at a number below 2^62.
@@ -127,7 +127,7 @@ impl<W: Width> ReceiveWindow<W> {
             };
         }
         let ahead = (part - next) as usize;
-        if self.slots[ahead].is_filled() {
+        if self.slots.get(ahead).is_filled() {
             return Accept::Again;
         }
         self.keep(part, ahead, bytes);
@@ -145,7 +145,7 @@ impl<W: Width> ReceiveWindow<W> {
         ensures holds { (first : ℕ) (parts : Parts) (n : ℕ) → Receives self.old first parts n → Receives self.new first parts (n + result) }
     {
         let mut count = 0;
-        while count < out.len() && self.slots[0].is_filled() {
+        while count < out.len() && self.slots.get(0).is_filled() {
             count += self.pull_front(&mut out[count..]);
         }
         count
@@ -160,8 +160,7 @@ impl<W: Width> ReceiveWindow<W> {
         requires fits { length bytes.now ≤ 1232 }
         ensures { self.new ≡ kept self.old part ahead bytes.now }
     {
-        let slot = &mut self.slots[ahead];
-        slot.fill(bytes);
+        self.slots.fill(ahead, bytes);
         self.greatest = match self.greatest {
             Some(greatest) if part < greatest => Some(greatest),
             _ => Some(part),
@@ -174,7 +173,7 @@ impl<W: Width> ReceiveWindow<W> {
         ensures bound { self.now.first + self.now.passed ≤ 2 ^ 62 }
         ensures within { IsWithin (part_at self.now.slots 0) self.now.used }
     {
-        self.slots[0].is_filled() && self.slots[0].bytes().len() <= self.used
+        self.slots.get(0).is_filled() && self.slots.get(0).bytes().len() <= self.used
     }
 
     /// Passes the next part, all of whose bytes were pulled.
@@ -183,8 +182,7 @@ impl<W: Width> ReceiveWindow<W> {
         ensures step { self.new ≡ past_front self.old }
         ensures bound { self.new.first + self.new.passed ≤ 2 ^ 62 }
     {
-        self.slots[0].clear();
-        self.slots.rotate_left(1);
+        self.slots.turn();
         self.passed += 1;
         self.used = 0;
     }
@@ -217,7 +215,7 @@ impl<W: Width> ReceiveWindow<W> {
         ensures goes_on { 0 < length out.old → 0 ≡ result → self.old.passed < self.new.passed }
         ensures bound { self.new.first + self.new.passed ≤ 2 ^ 62 }
     {
-        let left = &self.slots[0].bytes()[self.used..];
+        let left = &self.slots.get(0).bytes()[self.used..];
         let count = left.len().min(out.len());
         out[..count].copy_from_slice(&left[..count]);
         self.used += count;

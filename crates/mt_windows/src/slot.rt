@@ -1,6 +1,6 @@
 //! Room for the bytes of one part.
 
-ghost use Rattle.std.specs.Prelude.{◌≡◌, ◌≤◌, length, is_some, IsSome, IfOk, replicate};
+ghost use Rattle.std.specs.Prelude.{◌≡◌, ◌≤◌, length, is_some, IsSome, IfOk};
 
 use crate::limits::DATAGRAM;
 use mt_base::NoMemory;
@@ -69,29 +69,5 @@ impl Slot {
         ensures { self.new ≡ None }
     {
         self.filled = false;
-    }
-}
-
-/// So many empty slots.
-pub fn empty_slots(alloc: Global, count: usize) -> Result<Vec<Slot>, NoMemory>
-    ensures { IfOk result (λ v. v.items ≡ replicate count None) }
-{
-    let mut slots = Vec::with_capacity(alloc, count)?;
-    for _place in 0..count {
-        let slot = Slot::new(alloc)?;
-        match slots.push(slot) {
-            Ok(()) => {}
-            Err(_) => unreachable!(),
-        }
-    }
-    Ok(slots)
-}
-
-/// Takes the parts out of all slots.
-pub fn clear_all(slots: &mut Vec<Slot>)
-    ensures { slots.new.items ≡ replicate (length slots.old.items) None }
-{
-    for place in 0..slots.len() {
-        slots[place].clear();
     }
 }

@@ -14,7 +14,7 @@ returns-clause-holds g c first parts n h =
 pub returns-clause-left : goal.returns-clause-left
 returns-clause-left g c =
     let ahead = c.args.part - c.drained-next.result in
-    let none = missing c.self.inside.slots.items ahead c.index.result.now c.index.ensures (omega (arith, c.self.invariant.places)) (sym c.if-is_filled.ensures) in
+    let none = sym c.get.ensures ∙ missing c.get.result.now (sym c.if-is_filled.ensures) in
     adds c.args.self.now c.keep.new.self c.pass_drained.new.self c.args.part ahead c.args.bytes.now c.keep.ensures
     (ap (λ w. part_at w.slots ahead) (sym c.self.view_is) ∙ none)
     (subst (λ w. IsWithin (part_at w.slots 0) w.used) c.self.view_is c.self.invariant.within)
