@@ -1,4 +1,5 @@
 pub mod Noted
+pub mod BitsView
 pub mod NotedView
 pub mod Arrived
 pub mod ArrivedView

@@ -8,6 +8,7 @@
 //! the window stands for afterwards. No contract speaks of what a window keeps of it.
 #![tactic(auto)]
 
+mod bits;
 mod flight;
 mod flights;
 mod laws;

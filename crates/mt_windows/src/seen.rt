@@ -1,9 +1,11 @@
 //! The numbers that were seen of late.
 
-ghost use Rattle.std.specs.Prelude.{◌≡◌, ◌-◌, ◌<◌, ◌≤◌, ◌^◌, ℕ, List, [], ◌∷◌, length, false, nat_lt, if◌then◌else◌, slice_index_or, IfOk};
+ghost use Rattle.std.specs.Prelude.{◌≡◌, ◌+◌, ◌*◌, ◌%◌, ◌<◌, ◌≤◌, ◌^◌, ℕ, List, [], ◌∷◌, length, unwrap_or, IfOk};
+ghost use Rattle.mt_windows.specs.BitsView.{is_set};
 ghost use Rattle.mt_windows.specs.Noted.{greatest_of, is_seen};
-ghost use Rattle.mt_windows.specs.NotedView.{Notes};
+ghost use Rattle.mt_windows.specs.NotedView.{Covers, Notes};
 
+use crate::bits::Bits;
 use crate::limits::TELL;
 use mt_base::{NoMemory, Width};
 use std::alloc::Global;
@@ -13,20 +15,20 @@ use std::marker::{Model, PhantomData};
 #[derive(Drop)]
 pub struct Seen<W: Width> {
     greatest: Option<u64>,
-    recent: Vec<bool>,
+    recent: Bits,
     width: PhantomData<W>,
 }
 
 impl<W: Width> Model for Seen<W> {
-    ghost use Rattle.std.specs.Prelude.{◌≡◌, length};
+    ghost use Rattle.std.specs.Prelude.{◌≡◌, ◌*◌, length};
     ghost use Rattle.mt_windows.specs.declared.limits.TheConstants.{TELL};
     ghost use Rattle.mt_windows.specs.NotedView.{Marks};
 
     ghost Value = { Marks };
 
-    ghost view = { λ s. record { greatest = s.greatest; recent = s.recent.items } };
+    ghost view = { λ s. record { greatest = s.greatest; recent = s.recent } };
 
-    ghost invariant = { λ s. length s.recent.items ≡ TELL };
+    ghost invariant = { λ s. 64 * length s.recent ≡ TELL };
 }
 
 impl<W: Width> Seen<W> {
@@ -36,7 +38,7 @@ impl<W: Width> Seen<W> {
         requires below { _first < 2 ^ 33 }
         ensures { IfOk result (λ s. Notes s []) }
     {
-        let recent = vec![in alloc; false; TELL as usize]?;
+        let recent = Bits::new(alloc, TELL as usize / 64)?;
         Ok(Seen {
             greatest: None,
             recent,
@@ -51,35 +53,18 @@ impl<W: Width> Seen<W> {
         ensures { Notes self.new [] }
     {
         self.greatest = None;
-        self.recent.fill(false);
+        self.recent.clear_all();
     }
 
     /// Notes that the number was seen.
     pub fn note(&mut self, number: u64)
         ensures { (noted : List ℕ) → Notes self.old noted → Notes self.new (number ∷ noted) }
     {
-        let step = match self.greatest {
-            Some(greatest) => {
-                if number <= greatest {
-                    self.mark(greatest - number);
-                    return;
-                }
-                (number - greatest).min(TELL)
-            }
-            None => TELL,
-        };
-        shift(&mut self.recent, step as usize);
-        self.recent[0] = true;
-        self.greatest = Some(number);
-    }
-
-    /// Marks the number that lies so far behind the greatest one, where it is not too old.
-    fn mark(&mut self, behind: u64)
-        ensures { (noted : List ℕ) (greatest : ℕ) → self.old.greatest ≡ Some greatest → behind ≤ greatest → Notes self.old noted → Notes self.new ((greatest - behind) ∷ noted) }
-    {
-        if behind < TELL {
-            self.recent[behind as usize] = true;
-        }
+        let before = self.greatest.unwrap_or(0);
+        let greatest = number.max(before);
+        advance(&mut self.recent, before, greatest);
+        mark(&mut self.recent, greatest, number);
+        self.greatest = Some(greatest);
     }
 
     /// The greatest number that was seen.
@@ -93,23 +78,49 @@ impl<W: Width> Seen<W> {
     pub fn has(&self, number: u64) -> bool
         ensures { (noted : List ℕ) → Notes self.now noted → result ≡ is_seen TELL noted number }
     {
-        match self.greatest {
-            Some(greatest) if number <= greatest && greatest - number < TELL => {
-                self.recent[(greatest - number) as usize]
-            }
-            _ => false,
+        let Some(greatest) = self.greatest else {
+            return false;
+        };
+        if number > greatest || greatest - number >= TELL {
+            return false;
         }
+        self.recent.has((number % TELL) as usize)
+    }
+
+    /// The words of bits: of each of the last 512 numbers up to the greatest one, the bit at its
+    /// place, which it leaves modulo 512, is set where the number was seen.
+    pub fn words(&self) -> &[u64]
+        ensures count { length result.now ≡ 8 }
+        ensures bits { (noted : List ℕ) → Notes self.now noted → (n : ℕ) → n ≤ unwrap_or (greatest_of noted) 0 → unwrap_or (greatest_of noted) 0 < n + TELL → is_set result.now (n % TELL) ≡ is_seen TELL noted n }
+    {
+        self.recent.words()
     }
 }
 
-/// Moves the marks so many places on, and clears the places in front.
-fn shift(recent: &mut Vec<bool>, step: usize)
-    requires { step ≤ length recent.old.items }
-    ensures len { length recent.new.items ≡ length recent.old.items }
-    ensures marks { (k : ℕ) → k < length recent.old.items → slice_index_or recent.new.items k false ≡ (if nat_lt k step then false else slice_index_or recent.old.items (k - step) false) }
+/// Moves on to this number: those behind the one before were not seen.
+fn advance(recent: &mut Bits, before: u64, greatest: u64)
+    requires size { 64 * length recent.old ≡ TELL }
+    requires order { before ≤ greatest }
+    ensures len { length recent.new ≡ length recent.old }
+    ensures covers { (noted : List ℕ) → unwrap_or (greatest_of noted) 0 ≤ before → Covers recent.old before noted → Covers recent.new greatest noted }
 {
-    recent.rotate_right(step);
-    for place in 0..step {
-        recent[place] = false;
+    if greatest - before >= TELL {
+        recent.clear_all();
+        return;
+    }
+    for passed in before..greatest {
+        recent.clear(((passed + 1) % TELL) as usize);
+    }
+}
+
+/// Marks a number up to the greatest one, where it is not too old.
+fn mark(recent: &mut Bits, greatest: u64, number: u64)
+    requires size { 64 * length recent.old ≡ TELL }
+    requires order { number ≤ greatest }
+    ensures len { length recent.new ≡ length recent.old }
+    ensures covers { (noted : List ℕ) → Covers recent.old greatest noted → Covers recent.new greatest (number ∷ noted) }
+{
+    if greatest - number < TELL {
+        recent.set((number % TELL) as usize);
     }
 }
