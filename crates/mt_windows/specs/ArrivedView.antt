@@ -1,5 +1,7 @@
 -- What a receive window stands for.
-use Rattle.std.specs.Prelude.{◌≡◌, ℕ, zero, suc, ◌+◌, ◌-◌, ◌<◌, ◌≤◌, ◌^◌, Bool, false, nat_le, max, List, [], ◌∷◌, ◌++◌, length, drop, slice_set as set, Option, Some, None, IsSome, unwrap_or}
+use Rattle.std.specs.Prelude.{◌≡◌, ℕ, zero, suc, ◌+◌, ◌-◌, ◌%◌, ◌<◌, ◌≤◌, ◌^◌, Bool, false, nat_le, max, List, [], ◌∷◌, ◌++◌, length, drop, slice_set as set, Option, Some, None, IsSome, is_some, unwrap_or}
+use Rattle.mt_windows.specs.declared.limits.TheConstants.{WINDOW}
+use Rattle.mt_windows.specs.BitsView.{is_set}
 use Rattle.mt_windows.specs.Arrived.{Parts, part_at, passed, greatest_part}
 
 -- what a window keeps: the first number, how many parts were passed in full, how many bytes of the
@@ -26,6 +28,10 @@ pub record IsSound (window : ℕ) (w : Inbox) : Type 0 where
   pub within : IsWithin (part_at w.slots 0) w.used
   pub next_bound : w.first + w.passed ≤ 2 ^ 62
   pub bound : (k : ℕ) → IsSome (part_at w.slots k) → w.first + w.passed + k < 2 ^ 62
+
+-- the bits say of each place from the part `next` on whether a part is there
+abbrev pub AreMarked : List ℕ → ℕ → Parts → Type 0
+AreMarked words next slots = (k : ℕ) → k < WINDOW → is_set words ((next + k) % WINDOW) ≡ is_some (part_at slots k)
 
 -- the first `count` parts are there, and `used` of the first n bytes are behind them
 abbrev pub IsBehind : Parts → ℕ → ℕ → ℕ → Type 0

@@ -1,9 +1,11 @@
 //! The window of a link's receiver.
 
-ghost use Rattle.std.specs.Prelude.{◌≡◌, ◌+◌, ◌-◌, ◌<◌, ◌≤◌, ◌^◌, ◌++◌, ℕ, List, [], length, take, drop, min, IfOk, IsSome, IsTrue};
+ghost use Rattle.std.specs.Prelude.{◌≡◌, ◌+◌, ◌-◌, ◌*◌, ◌%◌, ◌<◌, ◌≤◌, ◌^◌, ◌++◌, ℕ, List, [], length, take, drop, min, IfOk, IsSome, IsTrue};
 ghost use Rattle.mt_windows.specs.Arrived.{Parts, part_at, passed, drained, greatest_part, has_part, verdict, with_part};
+ghost use Rattle.mt_windows.specs.BitsView.{is_set};
 ghost use Rattle.mt_windows.specs.ArrivedView.{IsWithin, Keeps, Receives, left_of, kept, is_drained, past_front};
 
+use crate::bits::Bits;
 use crate::limits::WINDOW;
 use crate::slots::Slots;
 use mt_base::{NoMemory, Width};
@@ -29,18 +31,20 @@ pub struct ReceiveWindow<W: Width> {
     used: usize,
     greatest: Option<u64>,
     slots: Slots,
+    accepted: Bits,
     width: PhantomData<W>,
 }
 
 impl<W: Width> Model for ReceiveWindow<W> {
     ghost use Rattle.mt_windows.specs.declared.limits.TheConstants.{WINDOW};
-    ghost use Rattle.mt_windows.specs.ArrivedView.{Inbox, IsSound};
+    ghost use Rattle.std.specs.Prelude.{◌≡◌, ◌+◌, ◌*◌, length};
+    ghost use Rattle.mt_windows.specs.ArrivedView.{Inbox, IsSound, AreMarked};
 
     ghost Value = { Inbox };
 
     ghost view = { λ w. record { first = w.first; passed = w.passed; used = w.used; greatest = w.greatest; slots = w.slots } };
 
-    ghost invariant = { λ w. IsSound WINDOW (record { first = w.first; passed = w.passed; used = w.used; greatest = w.greatest; slots = w.slots }) };
+    ghost invariant = { λ w. record { sound : IsSound WINDOW (record { first = w.first; passed = w.passed; used = w.used; greatest = w.greatest; slots = w.slots }); row : 64 * length w.accepted ≡ WINDOW; marks : AreMarked w.accepted (w.first + w.passed) w.slots } };
 }
 
 impl<W: Width> ReceiveWindow<W> {
@@ -51,12 +55,14 @@ impl<W: Width> ReceiveWindow<W> {
         ensures { IfOk result (λ w. Receives w first [] 0) }
     {
         let slots = Slots::new(alloc)?;
+        let accepted = Bits::new(alloc, WINDOW as usize / 64)?;
         Ok(ReceiveWindow {
             first,
             passed: 0,
             used: 0,
             greatest: None,
             slots,
+            accepted,
             width: PhantomData,
         })
     }
@@ -73,6 +79,7 @@ impl<W: Width> ReceiveWindow<W> {
         self.used = 0;
         self.greatest = None;
         self.slots.clear();
+        self.accepted.clear_all();
     }
 
     /// The number of the least part that was not handed out in full.
@@ -104,6 +111,16 @@ impl<W: Width> ReceiveWindow<W> {
         }
         let ahead = place - self.passed;
         ahead < WINDOW && self.slots.get(ahead as usize).is_filled()
+    }
+
+    /// The words of bits: of each part from the least one that was not handed out in full, as many
+    /// as a window holds, the bit at its place, which it leaves modulo their count, is set where the
+    /// part was accepted.
+    pub fn words(&self) -> &[u64]
+        ensures count { 64 * length result.now ≡ WINDOW }
+        ensures bits { (first : ℕ) (parts : Parts) (n : ℕ) → Receives self.now first parts n → (part : ℕ) → first + drained parts n ≤ part → part < first + drained parts n + WINDOW → is_set result.now (part % WINDOW) ≡ has_part first parts part }
+    {
+        self.accepted.words()
     }
 
     /// Takes a part of at most 1,232 bytes, at a number below 2^62.
@@ -161,6 +178,7 @@ impl<W: Width> ReceiveWindow<W> {
         ensures { self.new ≡ kept self.old part ahead bytes.now }
     {
         self.slots.fill(ahead, bytes);
+        self.accepted.set((part % WINDOW) as usize);
         self.greatest = match self.greatest {
             Some(greatest) if part < greatest => Some(greatest),
             _ => Some(part),
@@ -183,6 +201,8 @@ impl<W: Width> ReceiveWindow<W> {
         ensures bound { self.new.first + self.new.passed ≤ 2 ^ 62 }
     {
         self.slots.turn();
+        let front = self.first + self.passed;
+        self.accepted.clear((front % WINDOW) as usize);
         self.passed += 1;
         self.used = 0;
     }

@@ -11,4 +11,4 @@ returns-then-place-self g c first parts n h =
 pub returns-else-ahead-lt-WINDOW : goal.returns-else-ahead-lt-WINDOW
 returns-else-ahead-lt-WINDOW g c first parts n h =
     has_beyond _ first parts n c.args.part _ (subst (λ s. Keeps s first parts n) (sym c.self.view_is) h.keeps) c.if-part-self.false c.if-place-self.false
-    (omega (arith, c.self.invariant.places)) (let far = c.if-ahead-lt-WINDOW.false in grind (arith, nat_tests))
+    (omega (arith, c.self.invariant.sound.places)) (let far = c.if-ahead-lt-WINDOW.false in grind (arith, nat_tests))
