@@ -10,13 +10,14 @@ use Rattle.mt_base.specs.declared.kinds.Kind.{Kind}
 use Rattle.mt_base.specs.declared.kinds.Kind.TheVariants.{Reliable, Lossy}
 use Rattle.capture_check.specs.declared.entry.Entry.{Entry}
 use Rattle.capture_check.specs.declared.entry.Entry.TheVariants.{Issue, Open, Sent, Got, Main, Word, Out, In}
-use Rattle.capture_check.specs.Rules.{same_side, same_kind, is_out, is_out_of, HasOut, late, CountsUp, NamesOut, IsTimely, KeepsNumbers, NumbersHold, FirstBreak, BreaksRule, first, second, third}
+use Rattle.mt_base.specs.Ends.{same_kind, same_role}
+use Rattle.capture_check.specs.Rules.{is_out, is_out_of, HasOut, late, CountsUp, NamesOut, IsTimely, KeepsNumbers, NumbersHold, FirstBreak, BreaksRule, first, second, third}
 use Rattle.capture_check.specs.GivenSoFar.{Given, places, given_of, with_entry, no_datagrams, arrival_rule, rule_broken}
 use Rattle.capture_check.proofs.Places.{bit, how_many, counted, one, places_from, places_from-cons, places_from-append, length-places_from, how_many-append, given_by, places_by, given_of_by, none_given, one_more}
 
 -- ---- an entry that passes
 
-sides_same : (a b : Role) → same_side a b ≡ true → a ≡ b
+sides_same : (a b : Role) → same_role a b ≡ true → a ≡ b
 sides_same Server Server h = refl
 sides_same Client Client h = refl
 sides_same Server Client h = cc
@@ -47,7 +48,7 @@ passes side kind (Got s id message) h = cc
 passes side kind (Main s bytes) h = cc
 passes side kind (Word s k id) h = cc
 passes side kind (Out s k number datagram) h =
-    let parts = and_parts (same_side side s) (same_kind kind k) h in
+    let parts = and_parts (same_role side s) (same_kind kind k) h in
     (number, datagram, ap (λ x. Out x k number datagram) (sym (sides_same side s parts.0)) ∙ ap (λ x. Out side x number datagram) (sym (kinds_same kind k parts.1)))
 passes side kind (In s k number) h = cc
 

@@ -3,25 +3,12 @@
 use Rattle.std.specs.Prelude.{◌≡◌, ℕ, ◌+◌, ◌<◌, ◌&&◌, Bool, true, false, List, ◌∷◌, ◌++◌, length}
 use Rattle.std.specs.List.{count_by}
 use Rattle.mt_base.specs.declared.kinds.Role.{Role}
-use Rattle.mt_base.specs.declared.kinds.Role.TheVariants.{Server, Client}
 use Rattle.mt_base.specs.declared.kinds.Kind.{Kind}
-use Rattle.mt_base.specs.declared.kinds.Kind.TheVariants.{Reliable, Lossy}
+use Rattle.mt_base.specs.Ends.{same_kind, same_role}
 use Rattle.capture_check.specs.declared.entry.Entry.{Entry}
 use Rattle.capture_check.specs.declared.entry.Entry.TheVariants.{Out, In}
 use Rattle.capture_check.specs.declared.judgement.Judgement.{Judgement}
 use Rattle.capture_check.specs.declared.judgement.Judgement.TheVariants.{Holds, Breaks}
-
-abbrev pub same_kind : Kind → Kind → Bool
-same_kind Reliable Reliable = true
-same_kind Lossy Lossy = true
-same_kind Reliable Lossy = false
-same_kind Lossy Reliable = false
-
-abbrev pub same_side : Role → Role → Bool
-same_side Server Server = true
-same_side Client Client = true
-same_side Server Client = false
-same_side Client Server = false
 
 -- an entry is an `out` of this kind, of either side
 abbrev pub is_out : Kind → Entry → Bool
@@ -30,7 +17,7 @@ is_out kind other = false
 
 -- an entry is an `out` of this side and kind
 abbrev pub is_out_of : Role → Kind → Entry → Bool
-is_out_of side kind (Out s k number datagram) = same_side side s && same_kind kind k
+is_out_of side kind (Out s k number datagram) = same_role side s && same_kind kind k
 is_out_of side kind other = false
 
 -- an `out` of this side, kind and number stands among entries: those before it, and those behind it

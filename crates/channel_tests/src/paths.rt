@@ -1,5 +1,5 @@
 use mt_base::Kind;
-use soft_sync::{Path, Paths, Placed};
+use soft_sync::{Path, Paths, Placed, SyncRefusal};
 use std::test::*;
 
 const RELIABLE: Path = Path::Tunnel(Kind::Reliable);
@@ -7,7 +7,9 @@ const RELIABLE: Path = Path::Tunnel(Kind::Reliable);
 #[test]
 fn a_request_needs_version_three(rt: HostRuntime) -> Result<(), Fail> {
     let mut paths = Paths::new(rt.alloc())?;
-    assert!(rt; paths.request(&[1], &[]).is_err());
+    let refusal = SyncRefusal::OldVersion { version: 0 };
+    assert_eq!(rt; paths.refusal(&[1], &[]), Some(refusal));
+    assert_eq!(rt; paths.request(&[1], &[]), Err(refusal));
     paths.set_version(3);
     assert_eq!(rt; paths.outward(1), Path::Main);
     assert_eq!(rt; paths.answer_begin(), None);

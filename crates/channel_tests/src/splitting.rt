@@ -1,6 +1,8 @@
 //! Tests of the PDUs that messages are cut into.
 
-use dvc_channels::{fragment_of, fragments, fragments_are_fewest, fragments_make_messages};
+use dvc_channels::{
+    fragment_of, fragments, fragments_are_fewest, fragments_make_messages, fragments_size,
+};
 use std::test::*;
 
 #[test]
@@ -8,15 +10,16 @@ fn messages_are_cut_by_the_size_of_the_id(rt: HostRuntime) -> Result<(), Fail> {
     // A Data PDU has room for 1,598, 1,597 or 1,595 bytes by the size of the id; a DataFirst for 2
     // or 4 fewer, by the size of the length.
     let counts = [
-        (1, 1598, 1),
-        (1, 1599, 2),
-        (1, 3195, 3),
-        (1, 1_048_576, 657),
-        (65_536, 3188, 2),
-        (65_536, 3189, 3),
+        (1, 1598, 1, 1600),
+        (1, 1599, 2, 1605),
+        (1, 3195, 3, 3203),
+        (1, 1_048_576, 657, 1_049_894),
+        (65_536, 3188, 2, 3200),
+        (65_536, 3189, 3, 3206),
     ];
-    for (id, length, count) in counts {
+    for (id, length, count, size) in counts {
         assert_eq!(rt; fragments(id, length), count);
+        assert_eq!(rt; fragments_size(id, length), size);
     }
     Ok(())
 }

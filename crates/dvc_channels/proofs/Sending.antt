@@ -9,6 +9,7 @@ use Rattle.std.proofs.lemmas.List.Elements.{All-nil, All-cons, All-take, All-dro
 use Rattle.std.proofs.lemmas.Option.{slice_get-map, slice_get_within, get_or_from_slice_get}
 use Rattle.std.proofs.lemmas.Grind.{flat_map-append}
 use Rattle.mt_base.specs.Writing.{joined}
+use Rattle.mt_base.proofs.Fill.{joined-push}
 use Rattle.mt_base.specs.declared.kinds.Role.{Role}
 use Rattle.dvc_pdus.specs.Value.{Pdu, DataFirst, Data, smallest, spelled, AreBytes, IsPdu}
 use Rattle.dvc_channels.specs.Acts.{IsData}
@@ -191,3 +192,39 @@ pub sent_at : (from : Role) (id : ℕ) (message : List ℕ) (k : ℕ) (pdu : Pdu
 sent_at from id message k pdu fits long bytes is =
     subst (IsPdu from) (get_or_from_slice_get (fragments_of id message) k pdu pdu is)
     (fragments_sent from id message fits long bytes k pdu (slice_get_within (fragments_of id message) k pdu is))
+
+-- ---- how many bytes they have
+
+data_bytes : (id : ℕ) (pieces : List (List ℕ)) → length (flat_map spelled (map (Data id) pieces)) ≡ length pieces * (1 + length (smallest id)) + length (joined pieces)
+data_bytes id [] = omega arith
+data_bytes id (bytes ∷ pieces) =
+    omega (arith, length-append (spelled (Data id bytes)) (flat_map spelled (map (Data id) pieces)), length-data id bytes, data_bytes id pieces, length-append bytes (joined pieces))
+
+length-joined : (pieces : List (List ℕ)) (xs : List ℕ) → IsJoin pieces xs → length (joined pieces) ≡ length xs
+length-joined pieces xs j =
+    ap (λ t. length (joined t)) j.pieces_are ∙ ap length (joined-push j.middle j.last ∙ j.whole)
+
+pub bytes_of_one : (id : ℕ) (message : List ℕ) → length message ≤ room id
+    → length (flat_map spelled (fragments_of id message)) ≡ length (fragments_of id message) * (1 + length (smallest id)) + length message
+bytes_of_one id message short =
+    let sum : length (flat_map spelled (Data id message ∷ [])) ≡ 1 * (1 + length (smallest id)) + length message =
+    omega (arith, ap length (append-nil (spelled (Data id message))), length-data id message) in
+    ap (λ t. length (flat_map spelled t)) (one_pdu id message short) ∙ sum
+    ∙ ap (λ t. length t * (1 + length (smallest id)) + length message) (sym (one_pdu id message short))
+
+pub bytes_of_many : (id : ℕ) (message : List ℕ) → room id < length message
+    → length (flat_map spelled (fragments_of id message)) ≡ length (fragments_of id message) * (1 + length (smallest id)) + length (smallest (length message)) + length message
+bytes_of_many id message long =
+    let first = take (first_room id (length message)) message in
+    let rest = later id message in
+    let pieces = in_pieces (room id) rest in
+    let pdus = DataFirst id (length message) first ∷ map (Data id) pieces in
+    let s = length (smallest id) in
+    let whole : length first + length rest ≡ length message =
+    sym (length-append first rest) ∙ ap length (take-append-drop (first_room id (length message)) message) in
+    let joins : length (joined pieces) ≡ length rest = length-joined pieces rest (in_pieces_join (room id) rest (some_room id) (some_later id message long)) in
+    let counted : length pdus ≡ suc (length pieces) = ap suc (length-map pieces (Data id)) in
+    let sum : length (flat_map spelled pdus) ≡ suc (length pieces) * (1 + s) + length (smallest (length message)) + length message =
+    omega (arith, length-append (spelled (DataFirst id (length message) first)) (flat_map spelled (map (Data id) pieces)), length-data_first id (length message) first, data_bytes id pieces, joins, whole) in
+    ap (λ t. length (flat_map spelled t)) (many_pdus id message long) ∙ sum
+    ∙ ap (λ n. n * (1 + s) + length (smallest (length message)) + length message) (sym counted ∙ ap length (sym (many_pdus id message long)))

@@ -21,4 +21,4 @@ pub use laws::{
     fragments_are_fewest, fragments_fit, fragments_make_messages, more_pieces_add, one_cutting,
 };
 pub use message::Message;
-pub use splitting::{fragment_of, fragments};
+pub use splitting::{fragment_of, fragments, fragments_size};

@@ -1,6 +1,6 @@
 //! Messages cut into PDUs.
 
-ghost use Rattle.std.specs.Prelude.{◌≡◌, ◌<◌, ◌≤◌, ℕ, List, length, take, drop, slice_get, Some};
+ghost use Rattle.std.specs.Prelude.{◌≡◌, ◌<◌, ◌≤◌, ℕ, List, length, take, drop, flat_map, slice_get, Some};
 ghost use Rattle.dvc_pdus.specs.Value.{Pdu, smallest, spelled};
 ghost use Rattle.dvc_pdus.specs.Views.{pdu_of};
 ghost use Rattle.dvc_channels.specs.Fragments.{fragments_of, room};
@@ -40,6 +40,17 @@ pub fn fragments(id: u32, total: u32) -> u32
     }
     let rest = total as usize - (room - size(total));
     1 + rest.div_ceil(room) as u32
+}
+
+/// How many bytes the PDUs of a message of so many bytes have on this channel, all of them together.
+pub fn fragments_size(id: u32, total: u32) -> usize
+    ensures { (message : List ℕ) → length message ≡ total → result ≡ length (flat_map spelled (fragments_of id message)) }
+{
+    let headers = fragments(id, total) as usize * (1 + size(id));
+    if total as usize <= room(id) {
+        return headers + total as usize;
+    }
+    headers + size(total) + total as usize
 }
 
 /// The bytes of a message from a place on, but at most so many.

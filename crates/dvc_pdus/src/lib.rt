@@ -19,7 +19,7 @@ mod write;
 
 pub use laws::{one_meaning, reading_by_layout, written_is_read};
 pub use lists::{Ids, SyncList, SyncLists, SyncTypes};
-pub use moves::write_sync;
+pub use moves::{write_sync, write_sync_response};
 pub use pdu::{DvcPdu, DvcRefusal};
 pub use read::read_dvc;
 pub use write::write_dvc;

@@ -1,14 +1,16 @@
-//! Writing the Soft-Sync request that moves channels (MS-RDPEDYC section 2.2.5.1).
+//! Writing the Soft-Sync request that moves channels, and its answer (MS-RDPEDYC sections 2.2.5.1 and
+//! 2.2.5.2).
 
 ghost use Rattle.std.specs.Prelude.{◌≡◌, ◌+◌, ◌<◌, ◌≤◌, ◌^◌, ◌++◌, [], length, drop, IfOk, IfErr, OnErr, Err};
 ghost use Rattle.mt_base.specs.Filling.{Fills, fills};
 ghost use Rattle.mt_base.specs.Writing.{puts, joined};
 ghost use Rattle.mt_base.specs.declared.kinds.Kind.{Kind};
 ghost use Rattle.mt_base.specs.declared.kinds.Kind.TheVariants.{Reliable, Lossy};
-ghost use Rattle.mt_base.specs.declared.kinds.Role.TheVariants.{Server};
+ghost use Rattle.mt_base.specs.declared.kinds.Role.TheVariants.{Server, Client};
 ghost use Rattle.dvc_pdus.specs.Moves.{channels_length};
-ghost use Rattle.dvc_pdus.specs.Value.{Fits, fields, spelled, id_fields, lists_fields, list_to, lists_of, sync_length, sync_request};
+ghost use Rattle.dvc_pdus.specs.Value.{Fits, SyncResponse, fields, spelled, id_fields, type_fields, lists_fields, list_to, lists_of, sync_length, sync_request};
 
+use crate::command::SYNC_RESPONSE;
 use crate::sync_write::{put_front, tunnel_type};
 use mt_base::{Kind, NoRoom, Place, Spell};
 
@@ -111,4 +113,49 @@ pub fn write_sync(reliable: &[u32], lossy: &[u32], out: &mut [u8]) -> Result<usi
     ensures unchanged { OnErr result (out.new ≡ out.old) }
 {
     mt_base::write(&Moves { reliable, lossy }, out)
+}
+
+/// Puts the types of tunnels.
+fn put_kinds<P: Place>(place: &mut P, kinds: &[Kind]) -> Result<(), NoRoom>
+    ensures same { P.lent place.new ≡ P.lent place.old }
+    ensures filled { Fills (P.filling place.new) result (fills (type_fields kinds.now) (P.filling place.old)) }
+{
+    for kind in kinds.iter() {
+        place.put_u32_le(tunnel_type(*kind))?;
+    }
+    Ok(())
+}
+
+/// The answer to a request, which names these kinds of tunnel.
+#[derive(Clone, Copy)]
+struct Moved<'a> {
+    kinds: &'a [Kind],
+}
+
+impl Spell for Moved<'_> {
+    ghost fields = { λ moved. fields (SyncResponse moved.kinds.now) };
+
+    ghost fits = { λ moved. Fits Client (SyncResponse moved.kinds.now) };
+
+    fn spell<P: Place>(&self, place: &mut P) -> Result<(), NoRoom> {
+        place.put(&[SYNC_RESPONSE * 16])?;
+        place.put(&[0])?;
+        place.put_u32_le(self.kinds.len() as u32)?;
+        put_kinds(place, self.kinds)
+    }
+}
+
+/// Writes at the front of `out` the Soft-Sync response that names these kinds of tunnel, in this
+/// order, and gives the number of its bytes.
+///
+/// Where a field does not fit it is [`NoRoom`], with that field's place and length, and `out`
+/// stays as it was. The answer that names a reliable tunnel and no other is
+/// `90 00 01 00 00 00 01 00 00 00`.
+pub fn write_sync_response(kinds: &[Kind], out: &mut [u8]) -> Result<usize, NoRoom>
+    requires { Fits Client (SyncResponse kinds.now) }
+    ensures ok { let text = spelled (SyncResponse kinds.now) in IfOk result (λ n. (n ≡ length text) × (out.new ≡ text ++ drop n out.old)) }
+    ensures no_room { IfErr result (λ e. puts (fields (SyncResponse kinds.now)) (record { before = []; after = out.old }) ≡ Err e) }
+    ensures unchanged { OnErr result (out.new ≡ out.old) }
+{
+    mt_base::write(&Moved { kinds }, out)
 }

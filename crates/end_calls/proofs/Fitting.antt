@@ -9,7 +9,8 @@ use Rattle.mt_base.specs.Trace.{Trace, Start, ◌▷◌}
 use Rattle.dvc_pdus.specs.Value.{CreateRequest, CreateResponse, spelled, IsPdu}
 use Rattle.tunnel_pdus.specs.Value.{AreBytes, FitsFrame, FitsPdu}
 use Rattle.mt_endpoint.specs.Acts.{Act, Heard, TunnelAsked, TunnelAnswered, Spoken, Drawn, CreateAsked, CreateAnswered, Nothing, Carried}
-use Rattle.mt_endpoint.specs.Tunnels.{Request, same_kind}
+use Rattle.mt_endpoint.specs.Tunnels.{Request}
+use Rattle.mt_base.specs.Ends.{same_kind}
 use Rattle.mt_endpoint.specs.Orders.{is_among, channels_of}
 use Rattle.mt_endpoint.specs.Writing.{Written, OnMain, Into, on_main, into, unless, frame_of, tunnel_pdu_of}
 use Rattle.end_calls.specs.Law.{IsGiven}

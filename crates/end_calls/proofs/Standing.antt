@@ -14,7 +14,8 @@ use Rattle.tunnel_pdus.specs.Reading.{reading, frame_reading}
 use Rattle.tunnel_cookies.specs.Entries.{entry_of}
 use Rattle.mt_endpoint.specs.Acts.{Act, Hears, Draws, Drawn, CreateAsked, CreateAnswered, Nothing, Carried}
 use Rattle.mt_endpoint.specs.Faults.{Why, main_fault, tunnel_fault}
-use Rattle.mt_endpoint.specs.Tunnels.{issued, same_kind}
+use Rattle.mt_endpoint.specs.Tunnels.{issued}
+use Rattle.mt_base.specs.Ends.{same_kind}
 use Rattle.mt_endpoint.specs.Writing.{spoken, carried, framed, tunneled, frame_of, tunnel_pdu_of}
 use Rattle.mt_endpoint.specs.World.{IsStep, HasCome, begins, is_begun, heard_in, drawn_in, hears, draws}
 use Rattle.mt_endpoint.proofs.MainData.{frame_fine}

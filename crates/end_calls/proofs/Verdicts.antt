@@ -7,7 +7,8 @@ use Rattle.mt_base.specs.declared.kinds.Kind.TheVariants.{Reliable, Lossy}
 use Rattle.tunnel_cookies.specs.declared.entry.Entry.{Entry}
 use Rattle.tunnel_cookies.specs.declared.entry.Verdict.TheVariants as verdict
 use Rattle.tunnel_cookies.specs.Entries.{IsVerdict, unknown, wrong_cookie, wrong_kind, again, spent, opened}
-use Rattle.mt_endpoint.specs.Tunnels.{link_of, same_kind}
+use Rattle.mt_endpoint.specs.Tunnels.{link_of}
+use Rattle.mt_base.specs.Ends.{same_kind}
 use Rattle.end_calls.specs.Streams.{by_spender, verdict_by}
 
 differs : {b : Bool} → b ≡ false → b ≡ true → ⊥

@@ -25,7 +25,8 @@ use Rattle.mt_endpoint.specs.Channels.{table, has_place, is_closed, is_known}
 use Rattle.mt_endpoint.specs.Holding.{channel_in}
 use Rattle.mt_endpoint.specs.Moving.{outward}
 use Rattle.mt_endpoint.specs.Orders.{channels_of}
-use Rattle.mt_endpoint.specs.Tunnels.{Request, asked, answer, is_silent, same_kind, where_kind, request_in}
+use Rattle.mt_endpoint.specs.Tunnels.{Request, asked, answer, is_silent, where_kind, request_in}
+use Rattle.mt_base.specs.Ends.{same_kind}
 use Rattle.mt_endpoint.specs.Writing.{Written, Into, on_path, closing, create_request, told_of, unless, DENIED, create_code, is_full_for, reply, told_first, adds, on_main, into, spoken, carried}
 use Rattle.mt_endpoint.specs.World.{MayMove, IsMove, heard_in, drawn_in, hears, draws}
 use Rattle.mt_endpoint.specs.Alone.{IsDue, EndOfActs}

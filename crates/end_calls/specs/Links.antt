@@ -10,7 +10,8 @@ use Rattle.mt_base.specs.Trace.{Trace, Start, ◌▷◌}
 use Rattle.carrier.specs.Entries.{Gave, In, Polled, Pulled, Posted, Next}
 use Rattle.carrier.specs.Entries as link
 use Rattle.mt_endpoint.specs.Acts.{Act, Sends, Drawn}
-use Rattle.mt_endpoint.specs.Tunnels.{is_attached, same_kind}
+use Rattle.mt_endpoint.specs.Tunnels.{is_attached}
+use Rattle.mt_base.specs.Ends.{same_kind}
 use Rattle.mt_endpoint.specs.Writing.{tunneled}
 use Rattle.end_calls.specs.Streams.{Past, with_main, written}
 use Rattle.end_calls.specs.Calls.{Entry, Own, MainIn, MainOut, WireIn, WireOut, Pull, Handed, lacking, after_pulls, after_parts, read_count, before_poll, if_steps, story, past, acts}

@@ -21,7 +21,8 @@ use Rattle.tunnel_cookies.specs.declared.entry.Verdict.{Verdict}
 use Rattle.tunnel_cookies.specs.declared.entry.Verdict.TheVariants as verdict
 use Rattle.tunnel_cookies.specs.Entries.{entry_of}
 use Rattle.mt_endpoint.specs.Acts.{Act, Hears, Draws, Judges, Misses, Heard, TunnelAsked, TunnelAnswered, Spoken, Drawn, CreateAsked, CreateAnswered, Nothing, Carried}
-use Rattle.mt_endpoint.specs.Tunnels.{issued, link_of, same_kind}
+use Rattle.mt_endpoint.specs.Tunnels.{issued, link_of}
+use Rattle.mt_base.specs.Ends.{same_kind}
 use Rattle.mt_endpoint.specs.Faults.{Why, main_fault, tunnel_fault}
 use Rattle.mt_endpoint.specs.Faults as why
 use Rattle.mt_endpoint.specs.Growing.{grown}

@@ -1,4 +1,4 @@
-use dvc_pdus::{DvcPdu, DvcRefusal, SyncLists, read_dvc, write_sync};
+use dvc_pdus::{DvcPdu, DvcRefusal, SyncLists, read_dvc, write_sync, write_sync_response};
 use mt_base::{Kind, NoRoom, Role, Short};
 use std::test::*;
 
@@ -90,4 +90,16 @@ fn writes_requests(rt: HostRuntime) {
     assert_eq!(rt; out, [0xff; 20]);
     assert_eq!(rt; write_sync(&[7], &[], &mut out), Ok(20));
     assert_eq!(rt; out, SEVEN);
+}
+
+#[test]
+fn writes_responses(rt: HostRuntime) {
+    let mut out = [0xff; 10];
+    assert_eq!(rt;
+        write_sync_response(&[Kind::Reliable], &mut out[..9]),
+        Err(NoRoom { at: 6, need: 4 })
+    );
+    assert_eq!(rt; write_sync_response(&[Kind::Reliable], &mut out), Ok(10));
+    assert_eq!(rt; out, [0x90, 0, 1, 0, 0, 0, 1, 0, 0, 0]);
+    assert_eq!(rt; write_sync_response(&[], &mut out), Ok(6));
 }

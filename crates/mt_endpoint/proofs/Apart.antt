@@ -12,7 +12,8 @@ use Rattle.tunnel_cookies.specs.declared.entry.Verdict.{Verdict}
 use Rattle.tunnel_cookies.specs.declared.entry.Verdict.TheVariants as verdict
 use Rattle.tunnel_cookies.specs.Entries.{Entries, entry_of, unspent, spent_by, after}
 use Rattle.mt_endpoint.specs.Acts.{Act, Asks, Hears, Judges, TunnelAsked}
-use Rattle.mt_endpoint.specs.Tunnels.{Request, asked, request_in, issued, link_of, same_kind}
+use Rattle.mt_endpoint.specs.Tunnels.{Request, asked, request_in, issued, link_of}
+use Rattle.mt_base.specs.Ends.{same_kind}
 use Rattle.mt_endpoint.specs.Faults.{Unexpected}
 use Rattle.mt_endpoint.specs.World.{NetOfActs, side}
 use Rattle.mt_endpoint.specs.Alone.{IsAct, EndOfActs}

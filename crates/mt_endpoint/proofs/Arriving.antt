@@ -17,7 +17,7 @@ use Rattle.soft_sync.specs.Words.{path_of}
 use Rattle.mt_endpoint.specs.Acts.{Act, Hears, Draws, Spoken, Carried}
 use Rattle.mt_endpoint.specs.Said.{Said, Capable, Creates, Created, Brings, Ends, Moves, Moved, said}
 use Rattle.mt_endpoint.specs.Channels.{table, channel, is_open_in, is_closed}
-use Rattle.mt_endpoint.specs.Tunnels.{same_kind}
+use Rattle.mt_base.specs.Ends.{same_kind}
 use Rattle.mt_endpoint.specs.Tunnels as tunnels
 use Rattle.mt_endpoint.specs.Moving.{all_told, made_by, inward}
 use Rattle.mt_endpoint.specs.Holding.{Held, held, is_held, is_for_open, channel_in, channel_of, is_of, only}

@@ -17,7 +17,8 @@ use Rattle.tunnel_cookies.specs.declared.entry.Verdict.TheVariants as verdict
 use Rattle.mt_endpoint.specs.Acts.{Act, Repeats, Refuses, Sends, Closes, Hears, Draws, Judges, Releases, Spoken, Drawn, CreateAsked, CreateAnswered, Nothing, Carried}
 use Rattle.mt_endpoint.specs.Said.{Said, Ends, said}
 use Rattle.mt_endpoint.specs.Channels.{is_closed}
-use Rattle.mt_endpoint.specs.Tunnels.{Request, answer, answer_in, is_zero, is_open, is_silent, was_opened, opens, same_kind}
+use Rattle.mt_endpoint.specs.Tunnels.{Request, answer, answer_in, is_zero, is_open, is_silent, was_opened, opens}
+use Rattle.mt_base.specs.Ends.{same_kind}
 use Rattle.mt_endpoint.specs.Moving.{outward}
 use Rattle.mt_endpoint.specs.Writing.{Into, on_path, closing, unless, is_full_for, create_code, reply, adds, into, carried}
 use Rattle.mt_endpoint.specs.World.{NetOfActs, side, drawn_in, draws}

@@ -5,7 +5,8 @@ use Rattle.mt_base.specs.declared.kinds.Kind.{Kind}
 use Rattle.mt_base.specs.declared.kinds.Role.{Role}
 use Rattle.mt_base.specs.Trace.{Trace, Start, ◌▷◌}
 use Rattle.mt_endpoint.specs.Acts.{Act, Heard, TunnelAsked, TunnelAnswered, Spoken}
-use Rattle.mt_endpoint.specs.Tunnels.{asked, request_in, same_kind}
+use Rattle.mt_endpoint.specs.Tunnels.{asked, request_in}
+use Rattle.mt_base.specs.Ends.{same_kind}
 use Rattle.mt_endpoint.specs.Writing.{adds, on_main, spoken}
 use Rattle.mt_endpoint.specs.Alone.{EndOfActs}
 use Rattle.mt_endpoint.specs.Orders.{EachMay, asks, MayAsk}

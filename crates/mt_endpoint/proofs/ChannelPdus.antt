@@ -10,7 +10,8 @@ use Rattle.soft_sync.specs.declared.kinds.Path.{Path}
 use Rattle.soft_sync.specs.declared.kinds.Path.TheVariants.{Main, Tunnel}
 use Rattle.mt_endpoint.specs.Acts.{Act, Heard, TunnelAsked, TunnelAnswered, Spoken, Drawn, CreateAsked, CreateAnswered, Nothing, Carried}
 use Rattle.mt_endpoint.specs.Said.{Said, Capable, Creates, Created, Brings, Ends, Moves, Moved, said}
-use Rattle.mt_endpoint.specs.Tunnels.{is_silent, same_kind}
+use Rattle.mt_endpoint.specs.Tunnels.{is_silent}
+use Rattle.mt_base.specs.Ends.{same_kind}
 use Rattle.mt_endpoint.specs.Holding.{is_of, channel_in, channel_of}
 use Rattle.mt_endpoint.specs.Writing.{Written, OnMain, Into, unless, adds, on_main, into, spoken, carried}
 

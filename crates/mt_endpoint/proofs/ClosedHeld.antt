@@ -13,7 +13,7 @@ use Rattle.dvc_channels.specs.Acts as channels
 use Rattle.mt_endpoint.specs.Acts.{Act}
 use Rattle.mt_endpoint.specs.Said.{Said, Capable, Creates, Created, Brings, Ends, Moves, Moved, said}
 use Rattle.mt_endpoint.specs.Channels.{table, channel, has_place, is_closed, is_closed_in, is_open_in}
-use Rattle.mt_endpoint.specs.Tunnels.{same_kind}
+use Rattle.mt_base.specs.Ends.{same_kind}
 use Rattle.mt_endpoint.specs.Holding.{Held, held, is_held, only, without, without_first, unless_ended, channel_of}
 use Rattle.mt_endpoint.proofs.ChannelPdus.{is_mine}
 use Rattle.mt_endpoint.proofs.HeldPdus.{ends, none_left}

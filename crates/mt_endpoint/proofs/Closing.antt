@@ -13,7 +13,7 @@ use Rattle.dvc_channels.specs.Acts as channels
 use Rattle.mt_endpoint.specs.Acts.{Act, Hears, Draws, Releases, Spoken, Carried}
 use Rattle.mt_endpoint.specs.Said.{Said, Capable, Creates, Created, Brings, Ends, Moves, Moved, said, lone}
 use Rattle.mt_endpoint.specs.Channels.{table, channel, is_open, is_closed, is_closed_in, is_known, is_known_in}
-use Rattle.mt_endpoint.specs.Tunnels.{same_kind}
+use Rattle.mt_base.specs.Ends.{same_kind}
 use Rattle.mt_endpoint.specs.Holding.{Held, held, held_after, is_held, may_hold, is_for_open, fits, channel_of, is_of, only, without_first, unless_ended}
 use Rattle.mt_base.proofs.Prefixes.{nothing_first, nothing_second}
 use Rattle.mt_endpoint.proofs.ChannelPdus.{carried_pdus, of, keep-append, is_mine}

@@ -12,7 +12,7 @@ use Rattle.soft_sync.specs.Words.{path_of}
 use Rattle.mt_endpoint.specs.Acts.{Act, Opens, Takes, Closes, Releases, Discards}
 use Rattle.mt_endpoint.specs.Said.{said}
 use Rattle.mt_endpoint.specs.Channels.{table, channel, is_closed}
-use Rattle.mt_endpoint.specs.Tunnels.{same_kind}
+use Rattle.mt_base.specs.Ends.{same_kind}
 use Rattle.mt_endpoint.specs.Moving.{all_told, made_by, inward}
 use Rattle.mt_endpoint.specs.Holding.{Held, held, channel_of, is_of, only, without_first}
 use Rattle.mt_endpoint.specs.Faults.{is_moved}

@@ -13,7 +13,8 @@ use Rattle.soft_sync.specs.declared.kinds.Path.TheVariants.{Main, Tunnel}
 use Rattle.mt_endpoint.specs.Acts.{Act, Began, Opens, Sends, Takes, Asks, Attaches, Repeats, Refuses, Syncs, Closes, Silences, Hears, Draws, Judges, Misses, Answers, Releases, Discards, TunnelAsked, TunnelAnswered, Spoken, Drawn, CreateAsked, CreateAnswered, Nothing, Carried}
 use Rattle.mt_endpoint.specs.Said.{Said, Capable, Creates, Created, Brings, Ends, Moves, Moved, said}
 use Rattle.mt_endpoint.specs.Channels.{is_closed}
-use Rattle.mt_endpoint.specs.Tunnels.{Request, asked, answer, is_silent, same_kind}
+use Rattle.mt_endpoint.specs.Tunnels.{Request, asked, answer, is_silent}
+use Rattle.mt_base.specs.Ends.{same_kind}
 use Rattle.mt_endpoint.specs.Moving.{outward}
 use Rattle.mt_endpoint.specs.Writing.{Written, OnMain, Into, on_path, closing, create_request, told_of, told_first, unless, create_code, is_full_for, reply, adds, into}
 use Rattle.mt_endpoint.specs.Alone.{IsAct}

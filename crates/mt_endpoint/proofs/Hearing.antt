@@ -12,7 +12,8 @@ use Rattle.dvc_channels.specs.Acts as channels
 use Rattle.mt_endpoint.specs.Acts.{Act, Opens, Asks, Hears, Releases, Heard, TunnelAsked, Spoken}
 use Rattle.mt_endpoint.specs.Said.{Said, Creates, said}
 use Rattle.mt_endpoint.specs.Channels.{came, table, has_place, with_said, is_ready, tells_capabilities, is_known}
-use Rattle.mt_endpoint.specs.Tunnels.{asked, request_in, same_kind, Request}
+use Rattle.mt_endpoint.specs.Tunnels.{asked, request_in, Request}
+use Rattle.mt_base.specs.Ends.{same_kind}
 use Rattle.mt_endpoint.specs.Holding.{channel_in}
 use Rattle.std.specs.Map.{lookup}
 use Rattle.soft_sync.specs.declared.kinds.Kinds.{Kinds}

@@ -12,7 +12,8 @@ use Rattle.soft_sync.specs.declared.kinds.Path.TheVariants.{Main, Tunnel}
 use Rattle.mt_endpoint.specs.Acts.{Act, Began, Opens, Sends, Takes, Asks, Attaches, Repeats, Refuses, Syncs, Closes, Silences, Hears, Draws, Judges, Misses, Answers, Releases, Discards, Heard, TunnelAsked, TunnelAnswered, Spoken, Drawn, CreateAsked, CreateAnswered, Nothing, Carried}
 use Rattle.mt_endpoint.specs.Said.{Said, Capable, Creates, Created, Brings, Ends, Moves, Moved, said}
 use Rattle.mt_endpoint.specs.Channels.{message_to, is_closed}
-use Rattle.mt_endpoint.specs.Tunnels.{Request, asked, answer, same_kind}
+use Rattle.mt_endpoint.specs.Tunnels.{Request, asked, answer}
+use Rattle.mt_base.specs.Ends.{same_kind}
 use Rattle.mt_endpoint.specs.Moving.{made_by, answer_made, outward}
 use Rattle.mt_endpoint.specs.Holding.{is_through}
 use Rattle.mt_endpoint.specs.Writing.{Written, OnMain, Into, on_path, closing, create_request, told_of, told_first, is_full_for, create_code, unless, reply, into, adds}

@@ -14,7 +14,7 @@ use Rattle.dvc_channels.specs.Acts as channels
 use Rattle.mt_endpoint.specs.Acts.{Act, Opens, Closes, Hears, Draws, Releases, Discards, Spoken, Drawn, CreateAsked, CreateAnswered, Nothing, Carried}
 use Rattle.mt_endpoint.specs.Said.{Said, Capable, Creates, Created, Brings, Ends, Moves, Moved, said, lone}
 use Rattle.mt_endpoint.specs.Channels.{table, has_place, with_said, channel, is_open, is_open_in, is_known, is_known_in}
-use Rattle.mt_endpoint.specs.Tunnels.{same_kind}
+use Rattle.mt_base.specs.Ends.{same_kind}
 use Rattle.mt_endpoint.specs.Moving.{inward}
 use Rattle.mt_endpoint.specs.Holding.{Held, held, held_after, held_drawn, is_held, may_hold, is_for_open, channel_of, only, unless_ended, without, without_first, is_of, fits, is_through}
 use Rattle.mt_endpoint.specs.Orders.{is_among}

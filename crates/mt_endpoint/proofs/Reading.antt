@@ -11,7 +11,7 @@ use Rattle.soft_sync.specs.Exchanges.{exchanges, listed, moved}
 use Rattle.soft_sync.specs.Words.{path_of}
 use Rattle.mt_endpoint.specs.Acts.{Act, Began, Opens, Sends, Takes, Asks, Attaches, Repeats, Refuses, Syncs, Closes, Silences, Hears, Draws, Judges, Misses, Answers, Releases, Discards, TunnelAsked, TunnelAnswered, Spoken, Drawn, CreateAsked, CreateAnswered, Nothing, Carried}
 use Rattle.mt_endpoint.specs.Channels.{table}
-use Rattle.mt_endpoint.specs.Tunnels.{same_kind}
+use Rattle.mt_base.specs.Ends.{same_kind}
 use Rattle.mt_endpoint.specs.Moving.{all_told, made_by, read_by, answer_made, answer_read, made, read, inward}
 use Rattle.mt_endpoint.specs.Holding.{Held, held_after}
 use Rattle.mt_endpoint.specs.Faults.{Unexpected, said_fault}

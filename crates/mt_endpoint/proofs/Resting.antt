@@ -14,7 +14,7 @@ use Rattle.soft_sync.specs.Exchanges.{Request, exchanges, has, kind_in, if_among
 use Rattle.soft_sync.specs.Words.{path_of, request_of}
 use Rattle.mt_endpoint.specs.Acts.{Act, Syncs, Hears, Draws, Spoken, Carried}
 use Rattle.mt_endpoint.specs.Said.{Moves, Moved}
-use Rattle.mt_endpoint.specs.Tunnels.{same_kind}
+use Rattle.mt_base.specs.Ends.{same_kind}
 use Rattle.mt_endpoint.specs.Moving.{all_told, made_by, made, read_by, answer_read, inward, unanswered_in, channels_listed, request_read, kinds_of}
 use Rattle.mt_endpoint.specs.Holding.{held, is_of, is_through, only, channel_of}
 use Rattle.mt_endpoint.specs.Faults.{Unexpected, BadSyncAnswer, answers_fault}

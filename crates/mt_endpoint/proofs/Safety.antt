@@ -17,7 +17,7 @@ use Rattle.soft_sync.specs.declared.kinds.Path.{Path}
 use Rattle.soft_sync.specs.declared.kinds.Path.TheVariants.{Main, Tunnel}
 use Rattle.mt_endpoint.specs.Acts.{Act, Drawn, CreateAsked, CreateAnswered, Nothing, Carried}
 use Rattle.mt_endpoint.specs.Channels.{table, delivered, sent}
-use Rattle.mt_endpoint.specs.Tunnels.{same_kind}
+use Rattle.mt_base.specs.Ends.{same_kind}
 use Rattle.mt_endpoint.specs.Moving.{all_told, made_by, outward}
 use Rattle.mt_endpoint.specs.Holding.{is_through}
 use Rattle.mt_endpoint.specs.Writing.{spoken, carried}

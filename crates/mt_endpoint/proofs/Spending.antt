@@ -11,7 +11,8 @@ use Rattle.tunnel_cookies.specs.declared.entry.Entry.{Entry}
 use Rattle.tunnel_cookies.specs.declared.entry.Verdict.TheVariants as verdict
 use Rattle.tunnel_cookies.specs.Entries.{Entries, entry_of, unspent, spent_by, IsVerdict, again, opened, after}
 use Rattle.mt_endpoint.specs.Acts.{Act, Asks, Judges}
-use Rattle.mt_endpoint.specs.Tunnels.{Request, asked, request_in, was_opened, opens, issued, link_of, same_kind}
+use Rattle.mt_endpoint.specs.Tunnels.{Request, asked, request_in, was_opened, opens, issued, link_of}
+use Rattle.mt_base.specs.Ends.{same_kind}
 use Rattle.mt_endpoint.specs.Alone.{IsAct, EndOfActs}
 use Rattle.mt_endpoint.proofs.Known.{or_front}
 use Rattle.mt_endpoint.proofs.Opening.{or_back}

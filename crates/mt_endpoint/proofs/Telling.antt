@@ -17,7 +17,7 @@ use Rattle.mt_endpoint.specs.Said.{Brings, said, lone}
 use Rattle.mt_endpoint.specs.Channels.{came, tells_capabilities, is_closed, channel, is_open, is_open_in, is_known, is_known_in, is_ready}
 use Rattle.mt_endpoint.specs.Moving.{all_told, read_by, answer_made, unanswered_in, outward, inward}
 use Rattle.mt_endpoint.specs.Holding.{Held, held, held_drawn, is_held, may_hold, is_for_open, channel_of, only, without_first, fits, is_through}
-use Rattle.mt_endpoint.specs.Tunnels.{same_kind}
+use Rattle.mt_base.specs.Ends.{same_kind}
 use Rattle.mt_endpoint.specs.Writing.{adds, closing, unless, reply, on_main, spoken}
 use Rattle.mt_endpoint.specs.Faults.{Why, when, Unexpected, is_capable, said_fault}
 use Rattle.mt_endpoint.specs.World.{is_begun, begins}

@@ -12,7 +12,7 @@ use Rattle.soft_sync.specs.Exchanges.{Request, exchanges}
 use Rattle.mt_endpoint.specs.Acts.{Act, Answers, Releases, Discards}
 use Rattle.mt_endpoint.specs.Said.{said}
 use Rattle.mt_endpoint.specs.Channels.{is_closed}
-use Rattle.mt_endpoint.specs.Tunnels.{same_kind}
+use Rattle.mt_base.specs.Ends.{same_kind}
 use Rattle.mt_endpoint.specs.Moving.{all_told, read_by, answer_made, read, unanswered_in, may_answer, answer_to, inward}
 use Rattle.mt_endpoint.specs.Holding.{Held, channel_of, held, is_of, is_through, only, unless_ended, without_first}
 use Rattle.mt_endpoint.specs.Faults.{Why, release_fault}

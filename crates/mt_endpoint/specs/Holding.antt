@@ -11,7 +11,7 @@ use Rattle.soft_sync.specs.declared.kinds.Path.TheVariants.{Main, Tunnel}
 use Rattle.mt_endpoint.specs.Acts.{Act, Closes, Draws, Releases, Discards, Drawn, CreateAsked, CreateAnswered, Nothing, Carried}
 use Rattle.mt_endpoint.specs.Said.{Said, Capable, Creates, Created, Brings, Ends, Moves, Moved, said, lone}
 use Rattle.mt_endpoint.specs.Channels.{came, is_open}
-use Rattle.mt_endpoint.specs.Tunnels.{same_kind}
+use Rattle.mt_base.specs.Ends.{same_kind}
 use Rattle.mt_endpoint.specs.Moving.{inward}
 
 -- a PDU that is held, with its bytes and the place at which its tunnel PDU began

@@ -7,7 +7,7 @@ use Rattle.dvc_pdus.specs.Value.{ChannelList}
 use Rattle.soft_sync.specs.Exchanges.{Request}
 use Rattle.mt_endpoint.specs.Acts.{Heard, TunnelAsked, TunnelAnswered, Spoken}
 use Rattle.mt_endpoint.specs.Said.{Said, Capable, Creates, Created, Brings, Ends, Moves, Moved, said}
-use Rattle.mt_endpoint.specs.Tunnels.{same_kind}
+use Rattle.mt_base.specs.Ends.{same_kind}
 use Rattle.mt_endpoint.specs.Moving.{channels_listed}
 use Rattle.mt_endpoint.specs.Faults.{is_capable, is_answer_to}
 

@@ -5,17 +5,12 @@ use Rattle.mt_base.specs.declared.kinds.Kind.{Kind}
 use Rattle.mt_base.specs.declared.kinds.Kind.TheVariants.{Reliable, Lossy}
 use Rattle.mt_base.specs.declared.kinds.Role.{Role}
 use Rattle.mt_base.specs.declared.kinds.Role.TheVariants.{Server, Client}
+use Rattle.mt_base.specs.Ends.{same_kind}
 use Rattle.mt_base.specs.Trace.{Trace, Start, ◌▷◌}
 use Rattle.tunnel_cookies.specs.declared.entry.Verdict.{Verdict}
 use Rattle.tunnel_cookies.specs.declared.entry.Verdict.TheVariants as verdict
 use Rattle.tunnel_cookies.specs.Entries.{Entries, unspent, entry_of, after}
 use Rattle.mt_endpoint.specs.Acts.{Act, Asks, Attaches, Refuses, Silences, Hears, Draws, Judges, TunnelAsked, TunnelAnswered, CreateAnswered}
-
-abbrev pub same_kind : Kind → Kind → Bool
-same_kind Reliable Reliable = true
-same_kind Reliable Lossy = false
-same_kind Lossy Reliable = false
-same_kind Lossy Lossy = true
 
 -- the number of a link in the table of issued requests
 abbrev pub link_of : Kind → ℕ

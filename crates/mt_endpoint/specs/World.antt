@@ -15,7 +15,8 @@ use Rattle.soft_sync.specs.declared.kinds.Path.{Path}
 use Rattle.soft_sync.specs.declared.kinds.Path.TheVariants.{Main, Tunnel}
 use Rattle.mt_endpoint.specs.Acts.{Act, Began, Opens, Sends, Takes, Asks, Attaches, Repeats, Refuses, Syncs, Closes, Silences, Hears, Draws, Judges, Misses, Answers, Releases, Discards, Heard, Drawn, CreateAsked, CreateAnswered, Nothing, Carried}
 use Rattle.mt_endpoint.specs.Channels.{table, is_open, is_ready, delivered, sent, message_to}
-use Rattle.mt_endpoint.specs.Tunnels.{Request, asked, is_attached, is_silent, is_live, refusal, answer, issued, link_of, same_kind}
+use Rattle.mt_endpoint.specs.Tunnels.{Request, asked, is_attached, is_silent, is_live, refusal, answer, issued, link_of}
+use Rattle.mt_base.specs.Ends.{same_kind}
 use Rattle.soft_sync.specs.Exchanges.{listed}
 use Rattle.mt_endpoint.specs.Moving.{outward, made, all_told}
 use Rattle.mt_endpoint.specs.Writing.{spoken, carried}

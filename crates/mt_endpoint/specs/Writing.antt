@@ -18,7 +18,8 @@ use Rattle.soft_sync.specs.declared.kinds.Path.TheVariants.{Main, Tunnel}
 use Rattle.mt_endpoint.specs.Acts.{Act, Began, Opens, Sends, Asks, Attaches, Repeats, Refuses, Syncs, Closes, Draws, Judges, Answers, Heard, TunnelAsked, TunnelAnswered, Spoken, Drawn, CreateAsked, CreateAnswered, Nothing, Carried}
 use Rattle.mt_endpoint.specs.Said.{Said, Capable, Creates, Created, Brings, Ends, Moves, Moved, said}
 use Rattle.mt_endpoint.specs.Channels.{came, table, has_place, is_closed}
-use Rattle.mt_endpoint.specs.Tunnels.{Request, asked, answer, is_silent, same_kind}
+use Rattle.mt_endpoint.specs.Tunnels.{Request, asked, answer, is_silent}
+use Rattle.mt_base.specs.Ends.{same_kind}
 use Rattle.mt_endpoint.specs.Moving.{outward}
 
 -- one thing that is written

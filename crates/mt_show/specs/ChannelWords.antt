@@ -18,11 +18,6 @@ numbers_word (n ∷ ns) = join_with_byte 44 (map decimal (n ∷ ns))
 abbrev pub charges_word : List ℕ → List ℕ
 charges_word charges = codes "charges=" ++ join_with_byte 44 (map decimal charges)
 
--- a kind of tunnel
-abbrev pub kind_name : Kind → List ℕ
-kind_name Reliable = codes "reliable"
-kind_name Lossy = codes "lossy"
-
 -- the channels that move to a tunnel
 abbrev pub list_word : ChannelList → List ℕ
 list_word l = kind_name l.kind ++ (codes "=" ++ numbers_word l.ids)

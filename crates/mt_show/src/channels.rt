@@ -6,7 +6,8 @@ ghost use Rattle.dvc_pdus.specs.Value.{Caps, SyncRequest};
 ghost use Rattle.dvc_pdus.specs.Views.{pdu_of};
 ghost use Rattle.dvc_pdus.specs.ListViews.{ids_left, list_of, lists_left, types_left};
 ghost use Rattle.mt_show.specs.Words.{number_field, digits_field, wide_field, where_there};
-ghost use Rattle.mt_show.specs.ChannelWords.{numbers_word, charges_word, kind_name, list_word, data_words, first_words, channel_words, channel_refusal_words};
+ghost use Rattle.mt_script.specs.Spelling.{kind_name};
+ghost use Rattle.mt_show.specs.ChannelWords.{numbers_word, charges_word, list_word, data_words, first_words, channel_words, channel_refusal_words};
 ghost use Rattle.mt_show.specs.Steps.{behind, Adds, AddsWords};
 
 use crate::output::Output;

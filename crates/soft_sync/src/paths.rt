@@ -244,8 +244,9 @@ impl Paths {
         self.set_channel(id, false);
     }
 
-    /// Why a request that lists these channels is not made.
-    fn refusal(&self, reliable: &[u32], lossy: &[u32]) -> Option<SyncRefusal>
+    /// Why a request that lists these channels would not be made: the first cause, in the order in
+    /// which [`SyncRefusal`] lists them.
+    pub fn refusal(&self, reliable: &[u32], lossy: &[u32]) -> Option<SyncRefusal>
         ensures { result ≡ why_not reliable.now lossy.now self.now }
     {
         if self.version < VERSION {

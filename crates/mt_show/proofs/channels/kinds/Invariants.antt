@@ -1,6 +1,6 @@
 use Rattle.std.proofs.Common.{◌≡◌, ◌++◌, map}
 use Rattle.dvc_pdus.specs.ListViews.{types_left}
-use Rattle.mt_show.specs.ChannelWords.{kind_name}
+use Rattle.mt_script.specs.Spelling.{kind_name}
 use Rattle.mt_show.specs.Steps.{behind}
 use Rattle.mt_show.proofs.channels.kinds.Given as goal
 

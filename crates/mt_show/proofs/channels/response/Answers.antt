@@ -1,6 +1,6 @@
 use Rattle.std.proofs.Common.{[], ◌∷◌, map, codes}
 use Rattle.dvc_pdus.specs.ListViews.{types_left}
-use Rattle.mt_show.specs.ChannelWords.{kind_name}
+use Rattle.mt_script.specs.Spelling.{kind_name}
 use Rattle.mt_show.specs.Steps.{AddsWords}
 use Rattle.mt_show.proofs.Joining.{more_words}
 use Rattle.mt_show.proofs.channels.response.Goals as goal
