@@ -56,6 +56,8 @@ fn an_answer_names_a_kind(rt: HostRuntime) -> Result<(), Fail> {
     paths.set_channel(1, true);
     paths.set_open(Kind::Reliable, true);
     assert!(rt; paths.request(&[1], &[]).is_ok());
+    assert_eq!(rt; paths.made_channel(0, 0), Some((1, Kind::Reliable)));
+    assert_eq!(rt; paths.made_channel(0, 1), None);
     let number = paths.answer_begin().ok_or("no request was made")?;
     assert!(rt; paths.got_response(number, Kind::Reliable));
     assert_eq!(rt; paths.inward(1), RELIABLE);

@@ -65,6 +65,18 @@ impl Hold {
         self.counted += 16 + pdu.len();
     }
 
+    /// Gives the oldest PDU of a channel, with its place and length, which stays held. Behind its
+    /// length `out` stays as it was. The cost is that of its bytes and of the records before it.
+    pub fn oldest(&self, id: u32, out: &mut [u8; 1600]) -> Option<(u64, usize)>
+        ensures found { result ≡ option_map (λ (pdu : Pdu). (pdu.at, length pdu.bytes)) (oldest id self.now) }
+        ensures bytes { out.new ≡ with_bytes (oldest id self.now) out.old }
+    {
+        let (_, place, record) = self.rings.find(id)?;
+        let length = record.length as usize;
+        self.rings.copy_at(place, &mut out[..length]);
+        Some((record.at, length))
+    }
+
     /// Gives the oldest PDU of a channel, with its place and length, and holds it no longer. Behind
     /// its length `out` stays as it was. The cost is that of its bytes and of the records before
     /// it: the oldest of all stands at the front.

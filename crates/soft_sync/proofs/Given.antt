@@ -1,5 +1,5 @@
 -- A lemma on the oldest request without an answer: it is there, and can be answered.
-use Rattle.std.proofs.Common.{◌≡◌, ℕ, zero, suc, ◌+◌, Bool, true, false, cond, List, [], ◌∷◌, Option, Some, None, refl, sym, ap, ◌∙◌, arith}
+use Rattle.std.proofs.Common.{◌≡◌, ℕ, suc, ◌+◌, Bool, true, false, cond, List, [], ◌∷◌, Option, Some, refl, sym, ap, ◌∙◌, arith}
 use Rattle.soft_sync.specs.Exchanges.{Exchange, behind, behind_from, is_given, with_answer, giving}
 
 -- the place of a request, and that its answer is given once it is

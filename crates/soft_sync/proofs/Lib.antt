@@ -5,3 +5,4 @@ pub mod Finding
 pub mod Asking
 pub mod InOrder
 pub mod Given
+pub mod Places

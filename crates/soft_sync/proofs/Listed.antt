@@ -1,5 +1,5 @@
 -- Lemmas on what requests say of a channel: that is found at the one place where it is listed.
-use Rattle.std.proofs.Common.{◌≡◌, ◌≢◌, inl, inr, ℕ, zero, suc, ◌+◌, ◌-◌, ◌<◌, ◌≤◌, Bool, true, false, cond, nat_eq, List, [], ◌∷◌, ◌++◌, length, All, Option, Some, None, option_map, refl, sym, ap, ◌∙◌, subst, arith}
+use Rattle.std.proofs.Common.{◌≡◌, inl, inr, ℕ, zero, suc, ◌+◌, ◌<◌, ◌≤◌, Bool, true, false, cond, nat_eq, List, [], ◌∷◌, length, All, Option, Some, None, option_map, refl, sym, ap, ◌∙◌, subst, arith}
 use Rattle.std.specs.Cmp.{nat_eq_equiv}
 use Rattle.std.specs.List.{IsDistinct}
 use Rattle.std.specs.Option.{option_or}
@@ -13,7 +13,7 @@ use Rattle.mt_base.specs.declared.kinds.Kind.TheVariants.{Reliable, Lossy}
 use Rattle.soft_sync.specs.declared.kinds.Kinds.{Kinds}
 use Rattle.soft_sync.specs.declared.row.Row.{Row}
 use Rattle.soft_sync.specs.declared.row.Listing.{Listing}
-use Rattle.soft_sync.specs.Exchanges.{no_kinds, has, if_among, listed, moved}
+use Rattle.soft_sync.specs.Exchanges.{no_kinds, if_among, listed, moved}
 use Rattle.soft_sync.specs.Table.{listed_by, exchanges_from, IsKept}
 use Rattle.std.proofs.lemmas.List.Elements.{All-head, All-tail}
 

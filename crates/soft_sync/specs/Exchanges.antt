@@ -1,6 +1,6 @@
 -- Soft-Sync requests and the answers to them (MS-RDPEDYC sections 2.2.5.1 and 2.2.5.2), and what they
 -- say of a channel.
-use Rattle.std.specs.Prelude.{◌==◌, ℕ, zero, suc, ◌+◌, List, [], ◌∷◌, ◌++◌, nat_eq, Bool, true, false, not, Option, Some, None, if◌then◌else◌}
+use Rattle.std.specs.Prelude.{ℕ, zero, suc, ◌+◌, List, [], ◌∷◌, ◌++◌, nat_eq, Bool, true, false, Option, Some, None, if◌then◌else◌}
 use Rattle.std.specs.Option.{option_or}
 use Rattle.std.specs.Map.{lookup}
 use Rattle.mt_base.specs.declared.kinds.Kind.{Kind}
@@ -98,6 +98,12 @@ abbrev pub is_given : ℕ → List Exchange → Bool
 is_given number [] = false
 is_given zero (x ∷ xs) = x.answer.is_given
 is_given (suc number) (x ∷ xs) = is_given number xs
+
+-- the channels that the request of this number lists
+abbrev pub channels_at : ℕ → List Exchange → List (ℕ × Kind)
+channels_at number [] = []
+channels_at zero (x ∷ xs) = x.request.channels
+channels_at (suc number) (x ∷ xs) = channels_at number xs
 
 -- ---- what changes them
 

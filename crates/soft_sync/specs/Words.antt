@@ -1,6 +1,6 @@
 -- The words of an end: the Soft-Sync requests that it made and read, what came of them, and the paths
 -- of channels that follow.
-use Rattle.std.specs.Prelude.{◌==◌, ℕ, ◌+◌, ◌<◌, ◌⊎◌, IsSome, length, List, [], ◌∷◌, ◌++◌, map, nat_eq, nat_lt, Bool, true, false, not, ◌&&◌, ◌||◌, Option, Some, None, is_some, option_map, if◌then◌else◌}
+use Rattle.std.specs.Prelude.{ℕ, ◌<◌, ◌⊎◌, IsSome, length, List, [], ◌∷◌, ◌++◌, map, nat_eq, nat_lt, Bool, true, false, not, ◌||◌, Option, Some, None, is_some, option_map, if◌then◌else◌}
 use Rattle.std.specs.Option.{option_or, unwrap_or}
 use Rattle.std.specs.List.{find, list_any}
 use Rattle.std.specs.Map.{lookup, set_value}

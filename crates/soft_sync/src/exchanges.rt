@@ -25,9 +25,9 @@ pub struct Exchanges {
 }
 
 impl Exchanges {
-    ghost use Rattle.std.specs.Prelude.{not, is_some};
+    ghost use Rattle.std.specs.Prelude.{not, is_some, slice_get};
     ghost use Rattle.std.specs.List.{find};
-    ghost use Rattle.soft_sync.specs.Table.{IsRoomy, under, row_of};
+    ghost use Rattle.soft_sync.specs.Table.{IsRoomy, under, row_of, listed_by};
     ghost use Rattle.std.specs.Prelude.{◌-◌};
     ghost use Rattle.std.specs.Map.{keys_of};
     ghost use Rattle.soft_sync.specs.Words.{first_repeated};
@@ -192,6 +192,25 @@ impl Exchanges {
             return;
         };
         row.is_given = true;
+    }
+
+    /// The channel at this place among those that a request lists, in order, with its kind.
+    pub fn channel(&self, number: u32, place: usize) -> Option<(u32, Kind)>
+        ensures { result ≡ slice_get (listed_by number self.now.listings.entries) place }
+    {
+        let mut ahead = place;
+        for at in 0..self.listings.len() {
+            let Some((id, listing)) = self.listings.get_index(at) else {
+                unreachable!()
+            };
+            if listing.number == number {
+                if ahead == 0 {
+                    return Some((*id, listing.kind));
+                }
+                ahead -= 1;
+            }
+        }
+        None
     }
 
     /// The first id that is listed.

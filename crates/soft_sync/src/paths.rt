@@ -47,7 +47,8 @@ impl Model for Paths {
 
 impl Paths {
     ghost use Rattle.std.specs.Prelude.{◌≡◌, ◌<◌, ◌++◌, ◌∷◌, ◌&&◌, [], length, not, nat_eq, None, Some, true, IfOk, OnOk, IfErr, OnErr, IfSome, IfNone, if◌then◌else◌};
-    ghost use Rattle.soft_sync.specs.Exchanges.{unanswered, listed, behind, names, is_named, is_given, with_channel, with_answer, naming, giving, set_kind};
+    ghost use Rattle.std.specs.Prelude.{slice_get};
+    ghost use Rattle.soft_sync.specs.Exchanges.{unanswered, listed, behind, names, is_named, is_given, channels_at, with_channel, with_answer, naming, giving, set_kind};
     ghost use Rattle.soft_sync.specs.Words.{silence, outward, inward, placed, request_of, why_not, told, told_of, HasPlace, first_closed, begun_of, is_open_channel};
     ghost use Rattle.std.specs.List.{find};
 
@@ -187,6 +188,20 @@ impl Paths {
         Some(number)
     }
 
+    /// The oldest request of this end that has no answer yet; none where each has one.
+    pub fn awaited(&self) -> Option<u32>
+        ensures { result ≡ behind self.now.made }
+    {
+        self.made.behind()
+    }
+
+    /// Whether a request of this end names this kind.
+    pub fn asks(&self, request: u32, kind: Kind) -> bool
+        ensures { result ≡ names request kind self.now.made }
+    {
+        self.made.names(request, kind)
+    }
+
     /// The answer to a request of this end names this kind: from now on what comes for the channels
     /// that the request lists under it comes on that tunnel. False exactly where the request didn't
     /// name the kind, or where its answer named it before; then nothing changes.
@@ -200,6 +215,15 @@ impl Paths {
         }
         self.made.name(request, kind);
         true
+    }
+
+    /// The channel at this place among those that a request of this end lists, in order, each with
+    /// its kind; none where there are no more.
+    pub fn made_channel(&self, request: u32, place: usize) -> Option<(u32, Kind)>
+        requires { request < length self.now.made }
+        ensures { result ≡ slice_get (channels_at request self.now.made) place }
+    {
+        self.made.channel(request, place)
     }
 
     /// The path of what this end sends for a channel.

@@ -1,5 +1,4 @@
-use Rattle.std.proofs.Common.{◌≡◌, ◌++◌, None, true, false, nat_eq, take, slice_get, get_or, sym, ap, ◌∙◌, subst}
-use Rattle.std.specs.List.{list_any}
+use Rattle.std.proofs.Common.{nat_eq, take, get_or, sym, ◌∙◌}
 use Rattle.std.proofs.lemmas.Option.{slice_get-get_or}
 use Rattle.soft_sync.proofs.Finding.{repeated_at, unrepeated_more, any_left, any_right, any_neither, any_flipped}
 use Rattle.soft_sync.proofs.paths.first_repeated.Goals as goal

@@ -1,4 +1,4 @@
-use Rattle.std.proofs.Common.{◌≡◌, ◌≤◌, Some, None, slice_get, length, sym, ap, ◌∙◌, subst, arith, rules}
+use Rattle.std.proofs.Common.{◌≡◌, ◌≤◌, Some, slice_get, length, sym, ap, ◌∙◌, subst, arith, rules}
 use Rattle.std.proofs.lemmas.List.{take_all}
 use Rattle.soft_sync.proofs.Answering.{AreGiven, behind_at, none_behind, given_more, read_at}
 use Rattle.soft_sync.proofs.exchanges.Exchanges.behind.Goals as goal

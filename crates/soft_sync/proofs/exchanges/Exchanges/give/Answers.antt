@@ -1,4 +1,4 @@
-use Rattle.std.proofs.Common.{◌≡◌, Some, None, slice_get, refl}
+use Rattle.std.proofs.Common.{◌≡◌, Some, slice_get, refl}
 use Rattle.soft_sync.specs.Exchanges.{giving}
 use Rattle.soft_sync.proofs.Answering.{giving_at, changed_past, read_at, read_past}
 use Rattle.soft_sync.proofs.exchanges.Exchanges.give.Goals as goal

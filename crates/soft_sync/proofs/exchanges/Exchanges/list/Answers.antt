@@ -3,7 +3,6 @@ use Rattle.std.proofs.lemmas.List.{length-append}
 use Rattle.std.proofs.lemmas.List.Elements.{All-push}
 use Rattle.indexmap.proofs.CallerLemmas.{insert_entry-new}
 use Rattle.soft_sync.specs.declared.row.Listing.{Listing}
-use Rattle.soft_sync.specs.Table.{under}
 use Rattle.mt_base.specs.declared.kinds.Kind.{Kind}
 use Rattle.soft_sync.proofs.Listed.{Listings}
 use Rattle.soft_sync.proofs.Growing.{Below}

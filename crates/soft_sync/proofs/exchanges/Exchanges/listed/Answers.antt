@@ -1,7 +1,5 @@
-use Rattle.std.proofs.Common.{◌≡◌, Some, None, nat_eq, sym, ap, ◌∙◌, subst, rules, arith}
+use Rattle.std.proofs.Common.{◌≡◌, Some, None, nat_eq, sym, rules}
 use Rattle.std.specs.Map.{lookup}
-use Rattle.std.proofs.lemmas.Map.Views.{IfSome-lookup_from_All}
-use Rattle.soft_sync.specs.declared.row.Listing.{Listing}
 use Rattle.soft_sync.proofs.Listed.{listed_is, number_of}
 use Rattle.soft_sync.proofs.exchanges.Exchanges.listed.Goals as goal
 

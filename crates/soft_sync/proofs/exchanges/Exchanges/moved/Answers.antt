@@ -1,7 +1,6 @@
-use Rattle.std.proofs.Common.{◌≡◌, ◌<◌, ◌+◌, Some, None, nat_eq, cond, true, false, slice_get, length, sym, ap, ◌∙◌, subst, rules, arith}
+use Rattle.std.proofs.Common.{◌≡◌, ◌<◌, Some, None, nat_eq, cond, true, false, slice_get, length, sym, ap, ◌∙◌, rules, arith}
 use Rattle.std.specs.Map.{lookup}
-use Rattle.soft_sync.specs.Exchanges.{has, moved}
-use Rattle.soft_sync.specs.Table.{exchanges_in}
+use Rattle.soft_sync.specs.Exchanges.{has}
 use Rattle.soft_sync.proofs.Listed.{moved_is, unmoved, number_at}
 use Rattle.soft_sync.proofs.Answering.{answer_there, read_at}
 use Rattle.soft_sync.proofs.exchanges.Exchanges.moved.Goals as goal

@@ -1,4 +1,4 @@
-use Rattle.std.proofs.Common.{◌≡◌, Some, None, slice_get, slice_set, true, refl, ap, ◌∙◌}
+use Rattle.std.proofs.Common.{◌≡◌, Some, slice_get, slice_set, true, refl, ap, ◌∙◌}
 use Rattle.soft_sync.specs.Exchanges.{naming, set_kind}
 use Rattle.soft_sync.specs.Table.{exchanges_in}
 use Rattle.soft_sync.specs.declared.kinds.Kinds.{Kinds}

@@ -1,4 +1,4 @@
-use Rattle.std.proofs.Common.{◌≡◌, ◌∙◌, ap, sym, true}
+use Rattle.std.proofs.Common.{◌∙◌, ap, sym}
 use Rattle.soft_sync.specs.Exchanges.{is_given}
 use Rattle.soft_sync.specs.Table.{exchanges_in}
 use Rattle.soft_sync.proofs.Given.{given}

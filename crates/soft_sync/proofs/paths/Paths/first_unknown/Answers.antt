@@ -1,8 +1,8 @@
-use Rattle.std.proofs.Common.{◌≡◌, ℕ, All, Some, None, true, false, not, slice_get, get_or, sym, ap, ◌∙◌, subst}
+use Rattle.std.proofs.Common.{◌≡◌, All, false, not, get_or, sym, ap, ◌∙◌, subst}
 use Rattle.std.proofs.lemmas.List.{take_all}
 use Rattle.std.proofs.lemmas.Option.{slice_get-get_or}
 use Rattle.soft_sync.proofs.Asking.{lacks_channel}
-use Rattle.soft_sync.proofs.Finding.{found_at, none_found, passes_more}
+use Rattle.soft_sync.proofs.Finding.{found_at, none_found}
 use Rattle.soft_sync.proofs.paths.Paths.first_unknown.Goals as goal
 
 pub returns-then-not-is_open_channel : goal.returns-then-not-is_open_channel

@@ -1,4 +1,4 @@
-use Rattle.std.proofs.Common.{◌≡◌, List, ◌∷◌, [], ◌++◌, length, refl, sym, ap, ◌∙◌, arith}
+use Rattle.std.proofs.Common.{◌≡◌, List, ◌∷◌, [], ◌++◌, length, refl, ap, ◌∙◌, arith}
 use Rattle.soft_sync.specs.contracts.paths.Paths.{the_view}
 use Rattle.soft_sync.specs.Exchanges.{Exchange}
 use Rattle.soft_sync.specs.Words.{Words, begun_of}

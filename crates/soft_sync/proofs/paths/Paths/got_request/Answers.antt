@@ -1,4 +1,4 @@
-use Rattle.std.proofs.Common.{◌≡◌, ℕ, List, ◌+◌, ◌-◌, ◌<◌, ◌∷◌, [], ◌++◌, None, nat_eq, length, refl, sym, ap, ◌∙◌, subst, arith}
+use Rattle.std.proofs.Common.{◌≡◌, ℕ, List, ◌-◌, ◌∷◌, [], None, nat_eq, length, sym, ap, ◌∙◌, subst, arith}
 use Rattle.std.specs.Map.{lookup}
 use Rattle.std.specs.Option.{IsSome}
 use Rattle.std.proofs.lemmas.List.Elements.{All-append, All-cons, All-nil}
@@ -6,7 +6,7 @@ use Rattle.soft_sync.specs.contracts.paths.Paths.{the_view}
 use Rattle.soft_sync.specs.declared.row.Listing.{Listing}
 use Rattle.soft_sync.specs.Exchanges.{Exchange, listed, with_channel}
 use Rattle.soft_sync.specs.Table.{exchanges_in, under, AreAmong}
-use Rattle.soft_sync.specs.Words.{Words, told_of}
+use Rattle.soft_sync.specs.Words.{Words}
 use Rattle.soft_sync.proofs.Listed.{Listings}
 use Rattle.soft_sync.proofs.Answering.{length-exchanges}
 use Rattle.soft_sync.proofs.Growing.{more_listed}

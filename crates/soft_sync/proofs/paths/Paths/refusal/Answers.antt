@@ -1,9 +1,9 @@
-use Rattle.std.proofs.Common.{◌≡◌, ◌++◌, Some, None, false, true, nat_lt, refl, sym, ap, ◌∙◌, subst, arith, rules}
+use Rattle.std.proofs.Common.{◌≡◌, ◌++◌, Some, None, false, nat_lt, refl, sym, ap, ◌∙◌, subst, arith}
 use Rattle.std.specs.Prelude.{is_some}
 use Rattle.std.specs.List.{find}
 use Rattle.std.proofs.lemmas.Bool.{le-ltb}
 use Rattle.soft_sync.specs.Exchanges.{listed}
-use Rattle.soft_sync.specs.Words.{Words, is_empty, first_repeated, first_closed}
+use Rattle.soft_sync.specs.Words.{Words, is_empty, first_closed}
 use Rattle.soft_sync.proofs.Asking.{why_is, lacks_channel, is_listed, found_either, repeated_either}
 use Rattle.soft_sync.proofs.paths.Paths.refusal.Goals as goal
 

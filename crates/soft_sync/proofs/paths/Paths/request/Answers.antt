@@ -1,15 +1,13 @@
-use Rattle.std.proofs.Common.{◌≡◌, ℕ, List, ◌+◌, ◌-◌, ◌<◌, ◌≤◌, ◌∷◌, [], ◌++◌, None, not, length, refl, sym, ap, ◌∙◌, subst, arith, rules}
+use Rattle.std.proofs.Common.{◌≡◌, ℕ, List, ◌∷◌, [], ◌++◌, None, not, length, refl, sym, ap, ◌∙◌, subst, arith}
 use Rattle.std.specs.Map.{keys_of}
 use Rattle.std.proofs.lemmas.List.{length-append}
-use Rattle.std.proofs.lemmas.List.Elements.{All-append, All-take}
 use Rattle.mt_base.specs.declared.kinds.Kind.TheVariants.{Reliable, Lossy}
 use Rattle.soft_sync.specs.contracts.paths.Paths.{the_view}
-use Rattle.soft_sync.specs.declared.kinds.Kinds.{Kinds}
 use Rattle.soft_sync.specs.Exchanges.{Exchange, unanswered}
 use Rattle.soft_sync.specs.Table.{exchanges_in, under, row_of, AreAmong}
 use Rattle.soft_sync.specs.Words.{Words, why_not, first_repeated, request_of, is_empty}
 use Rattle.soft_sync.proofs.Listed.{Listings}
-use Rattle.soft_sync.proofs.Growing.{IsMade, made_by, last_number, length-listed, keys_more}
+use Rattle.soft_sync.proofs.Growing.{made_by, last_number, length-listed, keys_more}
 use Rattle.soft_sync.proofs.Asking.{ready, among_both}
 use Rattle.soft_sync.proofs.paths.Paths.request.Goals as goal
 

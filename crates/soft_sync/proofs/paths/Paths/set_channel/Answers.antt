@@ -1,4 +1,4 @@
-use Rattle.std.proofs.Common.{◌≡◌, List, Bool, ℕ, ◌∷◌, [], ◌++◌, None, nat_eq, is_some, cond, refl, sym, ap, ◌∙◌, rules}
+use Rattle.std.proofs.Common.{◌≡◌, List, Bool, ℕ, ◌∷◌, [], ◌++◌, None, nat_eq, is_some, cond, sym, ap, ◌∙◌, rules}
 use Rattle.std.specs.Map.{lookup, set_value}
 use Rattle.indexmap.proofs.CallerLemmas.{insert_entry-new}
 use Rattle.soft_sync.specs.contracts.paths.Paths.{the_view}
