@@ -17,7 +17,7 @@ use Rattle.link_machine.specs.MachineView.{Machine, Stands, condition_of, layout
 pub left_is : (wire : Wire) (m : Machine) (t : Trace Entry) → Stands wire m t
     → left_of m.receiver.inbox ≡ drop (length (pulled t)) (passed (accepted (layout_at wire m) t))
 left_is wire m t s =
-    receives_left m.receiver.inbox m.receiver.config.peer (received (layout_at wire m) t).parts (length (pulled t)) s.hears.receives.keeps
+    receives_left m.receiver.inbox m.receiver.config.peer (received (layout_at wire m) t).parts (length (pulled t)) s.hears.receives
 
 -- more than sixteen in a row, and at most one more
 by_count : (n : ℕ) → n ≤ 17 → (if nat_lt 16 n then Closed n else Open) ≡ (if nat_lt 16 n then Closed 17 else Open)

@@ -1,82 +1,112 @@
 -- Lemmas on parts that arrive in any order.
-use Rattle.std.proofs.Common.{◌≡◌, ◌≢◌, ℕ, zero, suc, ◌+◌, ◌-◌, ◌<◌, ◌≤◌, ◌⊎◌, inl, inr, Bool, true, false, eqb, ltb, leb, cond, List, [], ◌∷◌, ◌++◌, length, take, drop, set, replicate, max, Option, Some, None, is_some, unwrap_or, refl, sym, ap, ◌∙◌, subst, append_assoc, append-nil, arith, length-append, length-drop}
-use Rattle.std.proofs.lemmas.List.{drop-drop, get_or-drop, get_or-set_same, get_or-set_other, drop-append-le, drop_at, drop_all, get_or_past, length-take-le}
-use Rattle.std.proofs.Math.Seq.{take-add, take-append-add, drop-append-add}
-use borrow.Rule.Slice.PartMut.{put_mid}
-use Rattle.std.proofs.lemmas.Bool.{cases_eq}
+use Rattle.std.proofs.Common.{◌≡◌, ◌≢◌, ℕ, zero, suc, ◌+◌, ◌-◌, ◌<◌, ◌≤◌, ◌⊎◌, inl, inr, Bool, true, false, eqb, ltb, leb, cond, List, [], ◌∷◌, ◌++◌, length, take, drop, set, replicate, max, Option, Some, None, is_some, IsSome, unwrap_or, get_or, ◌||◌, refl, sym, ap, ◌∙◌, subst, append_assoc, append-nil, arith, length-append, length-drop}
+use Rattle.std.proofs.lemmas.List.{drop-drop, get_or-drop, get_or-set_same, get_or-set_other, drop-append-le, length_push}
+use Rattle.std.proofs.lemmas.Bool.{cases_eq, cases_lt}
 use Rattle.std.proofs.lemmas.Bool.Decides.{nat_tests}
 use Rattle.mt_windows.specs.declared.receive.Accept.{Accept}
 use Rattle.mt_windows.specs.declared.receive.Accept.TheVariants.{New, Again, Beyond}
 use Rattle.mt_windows.specs.Arrived.{Parts, part_at, put, passed, drained, end_of, greatest_part, has_part, verdict, with_part}
-use Rattle.mt_windows.specs.ArrivedView.{Inbox, left_of, IsWithin, IsBehind, IsNext, Keeps, Receives, is_drained, kept, past_front}
+use Rattle.mt_windows.specs.ArrivedView.{Inbox, left_of, gap_of, HaveLengths, IsBehind, IsNext, Keeps, Receives, is_drained, kept, gathered, past_front, drawn}
+
+-- ---- parts of known lengths
+lengths_there : (parts : Parts) (lengths : List ℕ) (k : ℕ) → HaveLengths parts lengths → k < length lengths → is_some (part_at parts k) ≡ true
+lengths_there parts [] k h less = absurd (omega (arith, less))
+lengths_there [] (l ∷ lengths) k h less = absurd h
+lengths_there (None ∷ parts) (l ∷ lengths) k h less = absurd h
+lengths_there (Some bytes ∷ parts) (l ∷ lengths) zero h less = refl
+lengths_there (Some bytes ∷ parts) (l ∷ lengths) (suc k) h less = lengths_there parts lengths k h.1 (omega (arith, less))
+
+lengths_put : (parts : Parts) (lengths : List ℕ) (k : ℕ) (bytes : List ℕ) → length lengths ≤ k → HaveLengths parts lengths → HaveLengths (put parts k bytes) lengths
+lengths_put parts [] k bytes le h = tt
+lengths_put [] (l ∷ lengths) k bytes le h = absurd h
+lengths_put (None ∷ parts) (l ∷ lengths) k bytes le h = absurd h
+lengths_put (Some b ∷ parts) (l ∷ lengths) zero bytes le h = absurd (omega (arith, le))
+lengths_put (Some b ∷ parts) (l ∷ lengths) (suc k) bytes le h = (h.0, lengths_put parts lengths k bytes (omega (arith, le)) h.1)
+
+lengths_longer : (parts : Parts) (lengths bytes : List ℕ) → HaveLengths parts lengths → part_at parts (length lengths) ≡ Some bytes → HaveLengths parts (lengths ++ length bytes ∷ [])
+lengths_longer [] [] bytes h is = absurd (cc)
+lengths_longer (None ∷ parts) [] bytes h is = absurd (cc)
+lengths_longer (Some b ∷ parts) [] bytes h is = (let same : b ≡ bytes = (cc) in ap length same, tt)
+lengths_longer [] (l ∷ lengths) bytes h is = absurd h
+lengths_longer (None ∷ parts) (l ∷ lengths) bytes h is = absurd h
+lengths_longer (Some b ∷ parts) (l ∷ lengths) bytes h is = (h.0, lengths_longer parts lengths bytes h.1 is)
 
 -- the parts behind which a window stands are drained, and the next one is not
-pub behind_drained : (parts : Parts) (count n used : ℕ) → IsBehind parts count n used → IsNext (part_at parts count) used → drained parts n ≡ count
-behind_drained [] zero n used h next = refl
-behind_drained (None ∷ parts) zero n used h next = refl
-behind_drained (Some bytes ∷ parts) zero n used h next =
-    let e : leb (length bytes) n ≡ false = grind (arith, nat_tests) in ap (λ b. cond b (suc (drained parts (n - length bytes))) 0) e
-behind_drained [] (suc count) n used h next = absurd h
-behind_drained (None ∷ parts) (suc count) n used h next = absurd h
-behind_drained (Some bytes ∷ parts) (suc count) n used h next =
+pub behind_drained : (parts : Parts) (count n used : ℕ) (lengths : List ℕ) → IsBehind parts count n used lengths → part_at (drop count parts) (length lengths) ≡ None → IsNext lengths used → drained parts n ≡ count
+behind_drained [] zero n used lengths h gap next = refl
+behind_drained (None ∷ parts) zero n used lengths h gap next = refl
+behind_drained (Some bytes ∷ parts) zero n used [] h gap next = absurd (cc)
+behind_drained (Some bytes ∷ parts) zero n used (l ∷ lengths) h gap next =
+    let e : leb (length bytes) n ≡ false = (let is = h.0 in let long = h.1.0 in grind (arith, nat_tests)) in ap (λ b. cond b (suc (drained parts (n - length bytes))) 0) e
+behind_drained [] (suc count) n used lengths h gap next = absurd h
+behind_drained (None ∷ parts) (suc count) n used lengths h gap next = absurd h
+behind_drained (Some bytes ∷ parts) (suc count) n used lengths h gap next =
     let e : leb (length bytes) n ≡ true = grind (arith, nat_tests, h.0) in
-    ap (λ b. cond b (suc (drained parts (n - length bytes))) 0) e ∙ ap suc (behind_drained parts count (n - length bytes) used h.1 next)
+    ap (λ b. cond b (suc (drained parts (n - length bytes))) 0) e ∙ ap suc (behind_drained parts count (n - length bytes) used lengths h.1 gap next)
 
--- what is left in order begins in the next part
-pub behind_left : (parts : Parts) (count n used : ℕ) → IsBehind parts count n used → drop n (passed parts) ≡ drop used (passed (drop count parts))
-behind_left parts zero n used h = ap (λ m. drop m (passed parts)) h
-behind_left [] (suc count) n used h = absurd h
-behind_left (None ∷ parts) (suc count) n used h = absurd h
-behind_left (Some bytes ∷ parts) (suc count) n used h =
-    drop_past bytes (passed parts) n h.0 ∙ behind_left parts count (n - length bytes) used h.1
-  where
-    drop_past : (xs ys : List ℕ) (n : ℕ) → length xs ≤ n → drop n (xs ++ ys) ≡ drop (n - length xs) ys
-    drop_past [] ys n h = let e : n ≡ n - 0 = omega arith in ap (λ m. drop m ys) e
-    drop_past (x ∷ xs) ys zero h = absurd (omega (arith, h))
-    drop_past (x ∷ xs) ys (suc n) h = let e : suc n - length (x ∷ xs) ≡ n - length xs = omega arith in drop_past xs ys n (omega (arith, h)) ∙ ap (λ m. drop m ys) (sym e)
+pub behind_there : (parts : Parts) (count n used : ℕ) (lengths : List ℕ) (k : ℕ) → IsBehind parts count n used lengths → k < count + length lengths → is_some (part_at parts k) ≡ true
+behind_there parts zero n used lengths k h less = lengths_there parts lengths k h.1 (omega (arith, less))
+behind_there [] (suc count) n used lengths k h less = absurd h
+behind_there (None ∷ parts) (suc count) n used lengths k h less = absurd h
+behind_there (Some bytes ∷ parts) (suc count) n used lengths zero h less = refl
+behind_there (Some bytes ∷ parts) (suc count) n used lengths (suc k) h less = behind_there parts count (n - length bytes) used lengths k h.1 (omega (arith, less))
 
-pub behind_there : (parts : Parts) (count n used k : ℕ) → IsBehind parts count n used → k < count → is_some (part_at parts k) ≡ true
-behind_there parts zero n used k h less = absurd (omega (arith, less))
-behind_there [] (suc count) n used k h less = absurd h
-behind_there (None ∷ parts) (suc count) n used k h less = absurd h
-behind_there (Some bytes ∷ parts) (suc count) n used zero h less = refl
-behind_there (Some bytes ∷ parts) (suc count) n used (suc k) h less = behind_there parts count (n - length bytes) used k h.1 (omega (arith, less))
+pub behind_put : (parts : Parts) (count n used : ℕ) (lengths : List ℕ) (k : ℕ) (bytes : List ℕ) → count + length lengths ≤ k → IsBehind parts count n used lengths → IsBehind (put parts k bytes) count n used lengths
+behind_put parts zero n used lengths k bytes le h = (h.0, lengths_put parts lengths k bytes (omega (arith, le)) h.1)
+behind_put [] (suc count) n used lengths k bytes le h = absurd h
+behind_put (None ∷ parts) (suc count) n used lengths k bytes le h = absurd h
+behind_put (Some b ∷ parts) (suc count) n used lengths zero bytes le h = absurd (omega (arith, le))
+behind_put (Some b ∷ parts) (suc count) n used lengths (suc k) bytes le h = (h.0, behind_put parts count (n - length b) used lengths k bytes (omega (arith, le)) h.1)
 
-pub behind_put : (parts : Parts) (count n used k : ℕ) (bytes : List ℕ) → count ≤ k → IsBehind parts count n used → IsBehind (put parts k bytes) count n used
-behind_put parts zero n used k bytes le h = h
-behind_put [] (suc count) n used k bytes le h = absurd h
-behind_put (None ∷ parts) (suc count) n used k bytes le h = absurd h
-behind_put (Some b ∷ parts) (suc count) n used zero bytes le h = absurd (omega (arith, le))
-behind_put (Some b ∷ parts) (suc count) n used (suc k) bytes le h = (h.0, behind_put parts count (n - length b) used k bytes (omega (arith, le)) h.1)
+pub behind_longer : (parts : Parts) (count n used : ℕ) (lengths bytes : List ℕ) → IsBehind parts count n used lengths → part_at (drop count parts) (length lengths) ≡ Some bytes → IsBehind parts count n used (lengths ++ length bytes ∷ [])
+behind_longer parts zero n used lengths bytes h is = (h.0, lengths_longer parts lengths bytes h.1 is)
+behind_longer [] (suc count) n used lengths bytes h is = absurd h
+behind_longer (None ∷ parts) (suc count) n used lengths bytes h is = absurd h
+behind_longer (Some b ∷ parts) (suc count) n used lengths bytes h is = (h.0, behind_longer parts count (n - length b) used lengths bytes h.1 is)
 
-pub behind_pass : (parts : Parts) (count n used : ℕ) (bytes : List ℕ) → IsBehind parts count n used → part_at parts count ≡ Some bytes → used ≡ length bytes → IsBehind parts (suc count) n 0
-behind_pass [] zero n used bytes h is all = absurd (cc)
-behind_pass (p ∷ parts) zero n used bytes h is all = subst (λ q. IsBehind (q ∷ parts) 1 n 0) (sym is) (omega (arith, h, all), omega (arith, h, all))
-behind_pass [] (suc count) n used bytes h is all = absurd h
-behind_pass (None ∷ parts) (suc count) n used bytes h is all = absurd h
-behind_pass (Some b ∷ parts) (suc count) n used bytes h is all = (h.0, behind_pass parts count (n - length b) used bytes h.1 is all)
+pub behind_pass : (parts : Parts) (count n used l : ℕ) (lengths : List ℕ) → IsBehind parts count n used (l ∷ lengths) → l ≤ used → IsBehind parts (suc count) n (used - l) lengths
+behind_pass [] zero n used l lengths h le = absurd h.1
+behind_pass (None ∷ parts) zero n used l lengths h le = absurd h.1
+behind_pass (Some bytes ∷ parts) zero n used l lengths h le = (omega (arith, h.0, h.1.0, le), (omega (arith, h.0, h.1.0, le), h.1.1))
+behind_pass [] (suc count) n used l lengths h le = absurd h
+behind_pass (None ∷ parts) (suc count) n used l lengths h le = absurd h
+behind_pass (Some b ∷ parts) (suc count) n used l lengths h le = (h.0, behind_pass parts count (n - length b) used l lengths h.1 le)
 
-pub behind_more : (parts : Parts) (count n used j : ℕ) → IsBehind parts count n used → IsBehind parts count (n + j) (used + j)
-behind_more parts zero n used j h = ap (λ m. m + j) h
-behind_more [] (suc count) n used j h = absurd h
-behind_more (None ∷ parts) (suc count) n used j h = absurd h
-behind_more (Some b ∷ parts) (suc count) n used j h =
+pub behind_more : (parts : Parts) (count n used : ℕ) (lengths : List ℕ) (j : ℕ) → IsBehind parts count n used lengths → IsBehind parts count (n + j) (used + j) lengths
+behind_more parts zero n used lengths j h = (ap (λ m. m + j) h.0, h.1)
+behind_more [] (suc count) n used lengths j h = absurd h
+behind_more (None ∷ parts) (suc count) n used lengths j h = absurd h
+behind_more (Some b ∷ parts) (suc count) n used lengths j h =
     let e : n + j - length b ≡ n - length b + j = omega (arith, h.0) in
-    (omega (arith, h.0), subst (λ m. IsBehind parts count m (used + j)) (sym e) (behind_more parts count (n - length b) used j h.1))
+    (omega (arith, h.0), subst (λ m. IsBehind parts count m (used + j) lengths) (sym e) (behind_more parts count (n - length b) used lengths j h.1))
 
--- lists that agree at each place pass the same bytes
-pub passed_same : (xs ys : Parts) → ((k : ℕ) → part_at xs k ≡ part_at ys k) → passed xs ≡ passed ys
-passed_same [] [] h = refl
-passed_same [] (None ∷ ys) h = refl
-passed_same [] (Some b ∷ ys) h = absurd (let e = h 0 in cc)
-passed_same (None ∷ xs) [] h = refl
-passed_same (None ∷ xs) (None ∷ ys) h = refl
-passed_same (None ∷ xs) (Some b ∷ ys) h = absurd (let e = h 0 in cc)
-passed_same (Some a ∷ xs) [] h = absurd (let e = h 0 in cc)
-passed_same (Some a ∷ xs) (None ∷ ys) h = absurd (let e = h 0 in cc)
-passed_same (Some a ∷ xs) (Some b ∷ ys) h =
-    let e : a ≡ b = let f = h 0 in cc in
-    ap (λ c. c ++ passed xs) e ∙ ap (λ c. b ++ c) (passed_same xs ys (λ k. h (suc k)))
+-- ---- the bytes of the parts up to a place
+-- the place is that of a missing part
+pub passed_gap : (parts : Parts) (m : ℕ) → part_at parts m ≡ None → passed (take m parts) ≡ passed parts
+passed_gap [] zero none = refl
+passed_gap [] (suc m) none = refl
+passed_gap (None ∷ parts) zero none = refl
+passed_gap (None ∷ parts) (suc m) none = refl
+passed_gap (Some b ∷ parts) zero none = absurd (cc)
+passed_gap (Some b ∷ parts) (suc m) none = ap (λ c. b ++ c) (passed_gap parts m none)
+
+-- a part is put behind the place
+pub passed_put : (parts : Parts) (m k : ℕ) (bytes : List ℕ) → m ≤ k → passed (take m (put parts k bytes)) ≡ passed (take m parts)
+passed_put parts zero k bytes le = refl
+passed_put [] (suc m) zero bytes le = absurd (omega (arith, le))
+passed_put [] (suc m) (suc k) bytes le = refl
+passed_put (p ∷ parts) (suc m) zero bytes le = absurd (omega (arith, le))
+passed_put (None ∷ parts) (suc m) (suc k) bytes le = refl
+passed_put (Some b ∷ parts) (suc m) (suc k) bytes le = ap (λ c. b ++ c) (passed_put parts m k bytes (omega (arith, le)))
+
+-- the part at the place is there, as all before it are
+pub passed_on : (parts : Parts) (m : ℕ) (bytes : List ℕ) → ((k : ℕ) → k < m → is_some (part_at parts k) ≡ true) → part_at parts m ≡ Some bytes → passed (take (suc m) parts) ≡ passed (take m parts) ++ bytes
+passed_on [] m bytes there is = absurd (cc)
+passed_on (None ∷ parts) zero bytes there is = absurd (cc)
+passed_on (Some b ∷ parts) zero bytes there is = let same : b ≡ bytes = (cc) in append-nil b ∙ same
+passed_on (None ∷ parts) (suc m) bytes there is = absurd (let e = there 0 (omega arith) in cc)
+passed_on (Some b ∷ parts) (suc m) bytes there is =
+    ap (λ c. b ++ c) (passed_on parts m bytes (λ k less. there (suc k) (omega (arith, less))) is) ∙ sym (append_assoc b (passed (take m parts)) bytes)
 
 pub part_at-put_same : (parts : Parts) (k : ℕ) (bytes : List ℕ) → part_at (put parts k bytes) k ≡ Some bytes
 part_at-put_same [] zero bytes = refl
@@ -121,17 +151,24 @@ nothing_at zero k = refl
 nothing_at (suc n) zero = refl
 nothing_at (suc n) (suc k) = nothing_at n k
 
--- the window's places are the parts from the next one on
-pub slots_from : (w : Inbox) (first : ℕ) (parts : Parts) (n k place : ℕ) → Keeps w first parts n → place ≡ w.passed + k → part_at w.slots k ≡ part_at parts place
+-- the window's places are the parts from the least missing one on
+pub slots_from : (w : Inbox) (first : ℕ) (parts : Parts) (n k place : ℕ) → Keeps w first parts n → place ≡ gap_of w + k → part_at w.slots k ≡ part_at parts place
 slots_from w first parts n k place h e = h.slots_are k ∙ ap (part_at parts) (sym e)
+
+behind_slot : (w : Inbox) (first : ℕ) (parts : Parts) (n : ℕ) → Keeps w first parts n → part_at (drop w.passed parts) (length w.lengths) ≡ part_at w.slots 0
+behind_slot w first parts n h = get_or-drop w.passed parts (length w.lengths) None ∙ sym (slots_from w first parts n 0 (w.passed + length w.lengths) h (omega arith))
 
 pub receives_drained : (w : Inbox) (first : ℕ) (parts : Parts) (n : ℕ) → Receives w first parts n → drained parts n ≡ w.passed
 receives_drained w first parts n h =
-    let e = slots_from w first parts n 0 w.passed h.keeps (omega arith) in
-    behind_drained parts w.passed n w.used h.keeps.behind (subst (λ p. IsNext p w.used) e h.next)
+    behind_drained parts w.passed n w.used w.lengths h.keeps.behind (behind_slot w first parts n h.keeps ∙ h.gap) h.next
 
 pub receives_next : (w : Inbox) (first : ℕ) (parts : Parts) (n : ℕ) → Receives w first parts n → w.first + w.passed ≡ first + drained parts n
 receives_next w first parts n h = omega (arith, receives_drained w first parts n h, h.keeps.first_is)
+
+-- the bytes in order are the rest of those passed
+pub receives_left : (w : Inbox) (first : ℕ) (parts : Parts) (n : ℕ) → Receives w first parts n → left_of w ≡ drop n (passed parts)
+receives_left w first parts n h =
+    h.keeps.ordered_is ∙ ap (drop n) (passed_gap parts (gap_of w) (sym (slots_from w first parts n 0 (gap_of w) h.keeps (omega arith)) ∙ h.gap))
 
 -- ---- a part that is kept
 pub set_at : (xs : Parts) (i k : ℕ) (p : Option (List ℕ)) → i < length xs → (k ≡ i) ⊎ (k ≡ i → ⊥) → part_at (set xs i p) k ≡ cond (eqb k i) p (part_at xs k)
@@ -150,18 +187,21 @@ eqb_shift a k i = by_cases (cases_eq k i)
     by_cases (inr ne) = grind (arith, nat_tests)
 
 -- the window that keeps one part more stands for the parts with that one
-pub keeps_kept : (w : Inbox) (first : ℕ) (parts : Parts) (n part ahead : ℕ) (bytes : List ℕ) → Keeps w first parts n → ahead < length w.slots → part ≡ w.first + w.passed + ahead → Keeps (kept w part ahead bytes) first (put parts (part - first) bytes) n
+pub keeps_kept : (w : Inbox) (first : ℕ) (parts : Parts) (n part ahead : ℕ) (bytes : List ℕ) → Keeps w first parts n → ahead < length w.slots → part ≡ w.first + gap_of w + ahead → Keeps (kept w part ahead bytes) first (put parts (part - first) bytes) n
 keeps_kept w first parts n part ahead bytes h l e =
-    let place : part - first ≡ w.passed + ahead = omega (arith, h.first_is) in
+    let place : part - first ≡ gap_of w + ahead = omega (arith, h.first_is) in
     let number : part ≡ first + (part - first) = omega (arith, h.first_is) in
+    let same = passed_put parts (gap_of w) (part - first) bytes (omega (arith, place)) in
     record {
       first_is = h.first_is;
-      behind = behind_put parts w.passed n w.used (part - first) bytes (omega (arith, place)) h.behind;
+      behind = behind_put parts w.passed n w.used w.lengths (part - first) bytes (omega (arith, place)) h.behind;
+      pulled = omega (arith, h.pulled, ap length same);
+      ordered_is = h.ordered_is ∙ ap (drop n) (sym same);
       slots_are = λ k.
           set_at w.slots ahead k (Some bytes) l (cases_eq k ahead)
           ∙ ap (λ p. cond (eqb k ahead) (Some bytes) p) (h.slots_are k)
-          ∙ ap (λ b. cond b (Some bytes) (part_at parts (w.passed + k))) (eqb_shift w.passed k ahead ∙ ap (λ m. eqb (w.passed + k) m) (sym place))
-          ∙ sym (put_at parts (part - first) (w.passed + k) bytes (cases_eq (w.passed + k) (part - first)));
+          ∙ ap (λ b. cond b (Some bytes) (part_at parts (gap_of w + k))) (eqb_shift (gap_of w) k ahead ∙ ap (λ m. eqb (gap_of w + k) m) (sym place))
+          ∙ sym (put_at parts (part - first) (gap_of w + k) bytes (cases_eq (gap_of w + k) (part - first)));
       greatest_is = greatest_put w.greatest first parts part (part - first) bytes h.greatest_is number;
     }
   where
@@ -173,37 +213,7 @@ keeps_kept w first parts n part ahead bytes h l e =
         ap (λ m. max m (unwrap_or g 0)) e ∙ ap (λ o. max (first + k) (unwrap_or o 0)) is ∙ greatest_more first (end_of parts) k ∙ ap (λ m. first + m - 1) (sym end) in
         ap Some value ∙ sym (ap (λ b. cond b (Some (first + end_of (put parts k bytes) - 1)) None) some)
 
--- a part in an empty place only adds to what is left
-pub set_adds : (xs : Parts) (k used : ℕ) (bytes : List ℕ) → part_at xs k ≡ None → IsWithin (part_at xs 0) used → (more : List ℕ) × (drop used (passed (set xs k (Some bytes))) ≡ drop used (passed xs) ++ more)
-set_adds [] k used bytes none within = ([], sym (append-nil (drop used [])))
-set_adds (None ∷ xs) zero used bytes none within = (bytes ++ passed xs, ap (λ u. drop u (bytes ++ passed xs)) within ∙ sym (ap (λ u. drop u [] ++ (bytes ++ passed xs)) within))
-set_adds (None ∷ xs) (suc k) used bytes none within = ([], sym (append-nil (drop used [])))
-set_adds (Some b ∷ xs) zero used bytes none within = absurd (cc)
-set_adds (Some b ∷ xs) (suc k) used bytes none within =
-    let rest = passed_adds xs k bytes none in (
-      rest.0,
-      ap (λ c. drop used (b ++ c)) rest.1 ∙ ap (drop used) (sym (append_assoc b (passed xs) rest.0))
-          ∙ drop-append-le used (b ++ passed xs) rest.0 (omega (arith, within, length-append b (passed xs))),
-    )
-  where
-    passed_adds : (xs : Parts) (k : ℕ) (bytes : List ℕ) → part_at xs k ≡ None → (more : List ℕ) × (passed (set xs k (Some bytes)) ≡ passed xs ++ more)
-    passed_adds [] k bytes none = ([], refl)
-    passed_adds (None ∷ xs) zero bytes none = (bytes ++ passed xs, refl)
-    passed_adds (None ∷ xs) (suc k) bytes none = ([], refl)
-    passed_adds (Some b ∷ xs) zero bytes none = absurd (cc)
-    passed_adds (Some b ∷ xs) (suc k) bytes none =
-        let rest = passed_adds xs k bytes none in
-        (rest.0, ap (λ c. b ++ c) rest.1 ∙ sym (append_assoc b (passed xs) rest.0))
-
--- ---- a part that is passed
-is_drained_some : (p : Option (List ℕ)) (used : ℕ) → is_drained p used ≡ true → (bytes : List ℕ) × (p ≡ Some bytes) × (length bytes ≤ used)
-is_drained_some None used h = absurd (cc)
-is_drained_some (Some bytes) used h = (bytes, refl, grind (arith, nat_tests))
-
-pub drained_all : (p : Option (List ℕ)) (used : ℕ) → is_drained p used ≡ true → IsWithin p used → (bytes : List ℕ) × (p ≡ Some bytes) × (used ≡ length bytes)
-drained_all None used h within = absurd (cc)
-drained_all (Some bytes) used h within = (bytes, refl, let le : length bytes ≤ used = grind (arith, nat_tests) in omega arith)
-
+-- ---- a part that is put behind the bytes in order
 pub shifted_at : (xs : Parts) (k : ℕ) → part_at (drop 1 xs ++ None ∷ []) k ≡ part_at xs (suc k)
 shifted_at [] zero = refl
 shifted_at [] (suc k) = refl
@@ -215,122 +225,158 @@ shifted_at (x ∷ xs) k = past_end xs k
     past_end (x ∷ xs) zero = refl
     past_end (x ∷ xs) (suc k) = past_end xs k
 
-pub keeps_past : (w : Inbox) (first : ℕ) (parts : Parts) (n : ℕ) (bytes : List ℕ) → part_at w.slots 0 ≡ Some bytes → w.used ≡ length bytes → Keeps w first parts n → Keeps (past_front w) first parts n
-keeps_past w first parts n bytes front all h =
-    let here = sym (slots_from w first parts n 0 w.passed h (omega arith)) ∙ front in
-    let up : suc w.passed ≡ w.passed + 1 = omega arith in
+pub keeps_gathered : (w : Inbox) (first : ℕ) (parts : Parts) (n : ℕ) (bytes : List ℕ) → part_at w.slots 0 ≡ Some bytes → Keeps w first parts n → Keeps (gathered w bytes) first parts n
+keeps_gathered w first parts n bytes front h =
+    let here : part_at parts (gap_of w) ≡ Some bytes = sym (slots_from w first parts n 0 (gap_of w) h (omega arith)) ∙ front in
+    let up : gap_of (gathered w bytes) ≡ suc (gap_of w) = (let l = length_push w.lengths (length bytes) in omega (arith, l)) in
+    let whole = ap (λ m. passed (take m parts)) up ∙ passed_on parts (gap_of w) bytes (λ k less. behind_there parts w.passed n w.used w.lengths k h.behind less) here in
     record {
       first_is = h.first_is;
-      behind = subst (λ c. IsBehind parts c n 0) up (behind_pass parts w.passed n w.used bytes h.behind here all);
-      slots_are = λ k. shifted_at w.slots k ∙ slots_from w first parts n (suc k) (w.passed + 1 + k) h (omega arith);
+      behind = behind_longer parts w.passed n w.used w.lengths bytes h.behind (behind_slot w first parts n h ∙ front);
+      pulled = omega (arith, ap length whole, length-append (passed (take (gap_of w) parts)) bytes, h.pulled);
+      ordered_is = ap (λ c. c ++ bytes) h.ordered_is ∙ sym (ap (drop n) whole ∙ drop-append-le n (passed (take (gap_of w) parts)) bytes h.pulled);
+      slots_are = λ k. shifted_at w.slots k ∙ slots_from w first parts n (suc k) (gap_of (gathered w bytes) + k) h (omega (arith, up));
       greatest_is = h.greatest_is;
     }
 
-pub left_past : (w : Inbox) (bytes : List ℕ) → part_at w.slots 0 ≡ Some bytes → w.used ≡ length bytes → left_of (past_front w) ≡ left_of w
-left_past w bytes front all = of_slots w.slots w.used front all
+-- ---- a part that is passed
+pub keeps_past : (w : Inbox) (first : ℕ) (parts : Parts) (n : ℕ) → is_drained w.lengths w.used ≡ true → Keeps w first parts n → Keeps (past_front w (get_or w.lengths 0 0)) first parts n
+keeps_past w first parts n front h = by_lengths w.lengths front refl
   where
-    past_end : (xs : Parts) → passed (xs ++ None ∷ []) ≡ passed xs
-    past_end [] = refl
-    past_end (None ∷ xs) = refl
-    past_end (Some b ∷ xs) = ap (λ c. b ++ c) (past_end xs)
+    by_lengths : (lengths : List ℕ) → is_drained lengths w.used ≡ true → w.lengths ≡ lengths → Keeps (past_front w (get_or w.lengths 0 0)) first parts n
+    by_lengths [] front e = absurd (cc)
+    by_lengths (l ∷ lengths) front e =
+        let le : l ≤ w.used = grind (arith, nat_tests) in
+        let up : suc w.passed ≡ w.passed + 1 = omega arith in
+        let same : gap_of (past_front w (get_or w.lengths 0 0)) ≡ gap_of w = omega (arith, ap length e, ap (λ ls. length (drop 1 ls)) e) in
+        let passes = behind_pass parts w.passed n w.used l lengths (subst (IsBehind parts w.passed n w.used) e h.behind) le in
+        let now = subst (λ c. IsBehind parts c n (w.used - l) lengths) up passes in
+        record {
+          first_is = h.first_is;
+          behind = subst (λ ls. IsBehind parts (w.passed + 1) n (w.used - get_or ls 0 0) (drop 1 ls)) (sym e) now;
+          pulled = subst (λ m. n ≤ length (passed (take m parts))) (sym same) h.pulled;
+          ordered_is = subst (λ m. w.ordered ≡ drop n (passed (take m parts))) (sym same) h.ordered_is;
+          slots_are = λ k. slots_from w first parts n k (gap_of (past_front w (get_or w.lengths 0 0)) + k) h (omega (arith, same));
+          greatest_is = h.greatest_is;
+        }
 
-    of_slots : (xs : Parts) (used : ℕ) → part_at xs 0 ≡ Some bytes → used ≡ length bytes → passed (drop 1 xs ++ None ∷ []) ≡ drop used (passed xs)
-    of_slots [] used front all = absurd (cc)
-    of_slots (None ∷ xs) used front all = absurd (cc)
-    of_slots (Some b ∷ xs) used front all =
-        let same : b ≡ bytes = cc in
-        past_end xs ∙ sym (drop_at b (passed xs) used (ap length same ∙ sym all))
+pub not_drained : (lengths : List ℕ) (used : ℕ) → is_drained lengths used ≡ false → IsNext lengths used
+not_drained [] used h = tt
+not_drained (l ∷ lengths) used h = grind (arith, nat_tests)
 
 -- ---- bytes that are pulled
-pub keeps_pulled : (w : Inbox) (first : ℕ) (parts : Parts) (n j : ℕ) → Keeps w first parts n → Keeps (record w { used = w.used + j }) first parts (n + j)
-keeps_pulled w first parts n j h = record { first_is = h.first_is; behind = behind_more parts w.passed n w.used j h.behind; slots_are = h.slots_are; greatest_is = h.greatest_is }
+pub keeps_drawn : (w : Inbox) (first : ℕ) (parts : Parts) (n j : ℕ) → j ≤ length w.ordered → Keeps w first parts n → Keeps (drawn w j) first parts (n + j)
+keeps_drawn w first parts n j le h = record {
+  first_is = h.first_is;
+  behind = behind_more parts w.passed n w.used w.lengths j h.behind;
+  pulled = omega (arith, le, ap length h.ordered_is, length-drop n (passed (take (gap_of w) parts)), h.pulled);
+  ordered_is = ap (drop j) h.ordered_is ∙ drop-drop j n (passed (take (gap_of w) parts));
+  slots_are = h.slots_are;
+  greatest_is = h.greatest_is;
+}
 
-pub receives_left : (w : Inbox) (first : ℕ) (parts : Parts) (n : ℕ) → Keeps w first parts n → left_of w ≡ drop n (passed parts)
-receives_left w first parts n h =
-    ap (drop w.used) (passed_same w.slots (drop w.passed parts) (λ k. h.slots_are k ∙ sym (get_or-drop w.passed parts k None)))
-    ∙ sym (behind_left parts w.passed n w.used h.behind)
-
--- what is left begins with the rest of the next part
-pub front_left : (xs : Parts) (bytes : List ℕ) (used : ℕ) → part_at xs 0 ≡ Some bytes → used ≤ length bytes → (more : List ℕ) × (drop used (passed xs) ≡ drop used bytes ++ more)
-front_left [] bytes used front within = absurd (cc)
-front_left (None ∷ xs) bytes used front within = absurd (cc)
-front_left (Some b ∷ xs) bytes used front within =
-    let same : b ≡ bytes = cc in
-    (passed xs, ap (λ c. drop used (c ++ passed xs)) same ∙ drop-append-le used bytes (passed xs) within)
-
--- ---- the steps of the calls
-pub past_step : (w v : Inbox) → v ≡ past_front w → is_drained (part_at w.slots 0) w.used ≡ true → IsWithin (part_at w.slots 0) w.used
-    → ((first : ℕ) (parts : Parts) (n : ℕ) → Keeps w first parts n → Keeps v first parts n) × (left_of v ≡ left_of w)
-past_step w v e drained within =
-    let all = drained_all (part_at w.slots 0) w.used drained within in (
-      λ first parts n h. subst (λ u. Keeps u first parts n) (sym e) (keeps_past w first parts n all.0 all.1 all.2 h),
-      ap left_of e ∙ left_past w all.0 all.1 all.2,
-    )
-
-pub not_drained : (p : Option (List ℕ)) (used : ℕ) → is_drained p used ≡ false → IsNext p used
-not_drained None used h = tt
-not_drained (Some bytes) used h = grind (arith, nat_tests)
-
-pub has_passed : (w : Inbox) (first : ℕ) (parts : Parts) (n part : ℕ) → Keeps w first parts n → w.first ≤ part → part - w.first < w.passed → true ≡ has_part first parts part
-has_passed w first parts n part h ge less =
+-- ---- which parts are there
+pub has_behind : (w : Inbox) (first : ℕ) (parts : Parts) (n part : ℕ) → Keeps w first parts n → w.first ≤ part → part - w.first < gap_of w → true ≡ has_part first parts part
+has_behind w first parts n part h ge less =
     let out : ltb part first ≡ false = grind (arith, nat_tests, h.first_is) in
-    sym (ap (λ b. cond b false (is_some (part_at parts (part - first)))) out ∙ behind_there parts w.passed n w.used (part - first) h.behind (omega (arith, h.first_is)))
+    sym (ap (λ b. cond b false (is_some (part_at parts (part - first)))) out ∙ behind_there parts w.passed n w.used w.lengths (part - first) h.behind (omega (arith, h.first_is, less)))
 
-pub has_ahead : (w : Inbox) (first : ℕ) (parts : Parts) (n part ahead : ℕ) → Keeps w first parts n → w.first ≤ part → ahead ≡ part - w.first - w.passed → w.passed ≤ part - w.first → is_some (part_at w.slots ahead) ≡ has_part first parts part
-has_ahead w first parts n part ahead h ge e beyond =
+pub has_ahead : (w : Inbox) (first : ℕ) (parts : Parts) (n part ahead : ℕ) → Keeps w first parts n → part ≡ w.first + gap_of w + ahead → is_some (part_at w.slots ahead) ≡ has_part first parts part
+has_ahead w first parts n part ahead h e =
     let out : ltb part first ≡ false = grind (arith, nat_tests, h.first_is) in
     ap is_some (slots_from w first parts n ahead (part - first) h (omega (arith, h.first_is))) ∙ sym (ap (λ b. cond b false (is_some (part_at parts (part - first)))) out)
 
-pub has_beyond : (w : Inbox) (first : ℕ) (parts : Parts) (n part : ℕ) (test : Bool) → Keeps w first parts n → w.first ≤ part → w.passed ≤ part - w.first → length w.slots ≤ part - w.first - w.passed → test ≡ false → test ≡ has_part first parts part
-has_beyond w first parts n part test h ge beyond far missed =
-    missed ∙ sym (ap is_some (get_or_past w.slots (part - w.first - w.passed) None far)) ∙ has_ahead w first parts n part _ h ge refl beyond
+-- of a place from the window's size on
+pub has_far : (w : Inbox) (first : ℕ) (parts : Parts) (n part k : ℕ) → Keeps w first parts n → part ≡ w.first + w.passed + k → length w.slots ≡ 64 → length w.lengths ≤ 64 → 64 ≤ k
+    → ((j : ℕ) → IsSome (part_at w.slots j) → length w.lengths + j < 64) → false ≡ has_part first parts part
+has_far w first parts n part k h e size few far near = sym (empty (part_at w.slots (k - length w.lengths)) refl) ∙ has_ahead w first parts n part (k - length w.lengths) h (omega (arith, e, few, far))
+  where
+    empty : (p : Option (List ℕ)) → part_at w.slots (k - length w.lengths) ≡ p → is_some (part_at w.slots (k - length w.lengths)) ≡ false
+    empty None is = ap is_some is
+    empty (Some b) is = absurd (omega (arith, near (k - length w.lengths) (ap is_some is), few, far))
 
-pub starts : (first count : ℕ) (slots : Parts) → slots ≡ replicate count None → Receives (record { first = first; passed = 0; used = 0; greatest = None; slots = slots }) first [] 0
-starts first count slots e =
-    let none : (k : ℕ) → part_at slots k ≡ None = λ k. ap (λ xs. part_at xs k) e ∙ nothing_at count k in
+-- of a place from the next part on
+pub has_from_next : (w : Inbox) (first : ℕ) (parts : Parts) (n part k : ℕ) → Keeps w first parts n → part ≡ w.first + w.passed + k → (ltb k (length w.lengths) || is_some (part_at w.slots (k - length w.lengths))) ≡ has_part first parts part
+has_from_next w first parts n part k h e = by_place (cases_lt k (length w.lengths))
+  where
+    by_place : (k < length w.lengths) ⊎ (length w.lengths ≤ k) → (ltb k (length w.lengths) || is_some (part_at w.slots (k - length w.lengths))) ≡ has_part first parts part
+    by_place (inl less) =
+        let yes : ltb k (length w.lengths) ≡ true = grind (arith, nat_tests) in
+        ap (λ b. b || is_some (part_at w.slots (k - length w.lengths))) yes ∙ has_behind w first parts n part h (omega arith) (omega (arith, less))
+    by_place (inr ge) =
+        let no : ltb k (length w.lengths) ≡ false = grind (arith, nat_tests) in
+        ap (λ b. b || is_some (part_at w.slots (k - length w.lengths))) no ∙ has_ahead w first parts n part (k - length w.lengths) h (omega (arith, ge))
+
+-- ---- the windows of the calls
+pub starts : (w : Inbox) (first : ℕ) → w.first ≡ first → w.passed ≡ 0 → w.lengths ≡ [] → w.used ≡ 0 → w.ordered ≡ [] → w.greatest ≡ None → w.slots ≡ replicate 64 None → Receives w first [] 0
+starts w first a b c d e f g =
+    let none : (k : ℕ) → part_at w.slots k ≡ None = λ k. ap (λ xs. part_at xs k) g ∙ nothing_at 64 k in
+    let start : IsBehind [] 0 0 0 [] = (refl, tt) in
+    let behind : IsBehind [] w.passed 0 w.used w.lengths =
+    subst (λ m. IsBehind [] m 0 w.used w.lengths) (sym b) (subst (λ m. IsBehind [] 0 0 m w.lengths) (sym d) (subst (IsBehind [] 0 0 0) (sym c) start)) in
     record {
-      keeps = record { first_is = refl; behind = refl; slots_are = none; greatest_is = refl };
-      next = subst (λ p. IsNext p 0) (sym (none 0)) tt;
+      keeps = record {
+        first_is = a;
+        behind = behind;
+        pulled = omega arith;
+        ordered_is = e ∙ sym (passed_gap [] (gap_of w) refl);
+        slots_are = none;
+        greatest_is = f;
+      };
+      gap = none 0;
+      next = subst (λ ls. IsNext ls w.used) (sym c) tt;
     }
 
-pub accepted : (w k v : Inbox) (first : ℕ) (parts : Parts) (n part ahead : ℕ) (bytes : List ℕ) → Keeps w first parts n → k ≡ kept w part ahead bytes → ahead < length w.slots → part ≡ w.first + w.passed + ahead
-    → ((first : ℕ) (parts : Parts) (n : ℕ) → Keeps k first parts n → Receives v first parts n) → Receives v first (put parts (part - first) bytes) n
-accepted w k v first parts n part ahead bytes h e l place passes =
-    passes first (put parts (part - first) bytes) n (subst (λ u. Keeps u first (put parts (part - first) bytes) n) (sym e) (keeps_kept w first parts n part ahead bytes h l place))
+-- the part was put ahead of a missing one
+pub receives_kept : (w v : Inbox) (first : ℕ) (parts : Parts) (n part ahead : ℕ) (bytes : List ℕ) → v ≡ kept w part ahead bytes → 0 < ahead → ahead < length w.slots → part ≡ w.first + gap_of w + ahead
+    → Receives w first parts n → Receives v first (put parts (part - first) bytes) n
+receives_kept w v first parts n part ahead bytes e far l place h =
+    subst (λ u. Receives u first (put parts (part - first) bytes) n) (sym e) (record {
+      keeps = keeps_kept w first parts n part ahead bytes h.keeps l place;
+      gap = get_or-set_other w.slots ahead 0 (Some bytes) None (λ q. omega (arith, q, far)) ∙ h.gap;
+      next = h.next;
+    })
+
+-- the part was the least missing one
+pub keeps_appended : (w v : Inbox) (first : ℕ) (parts : Parts) (n part : ℕ) (bytes : List ℕ) → v ≡ gathered (kept w part 0 bytes) bytes → 0 < length w.slots → part ≡ w.first + gap_of w
+    → Keeps w first parts n → Keeps v first (put parts (part - first) bytes) n
+keeps_appended w v first parts n part bytes e l place h =
+    subst (λ u. Keeps u first (put parts (part - first) bytes) n) (sym e)
+    (keeps_gathered (kept w part 0 bytes) first (put parts (part - first) bytes) n bytes (get_or-set_same w.slots 0 (Some bytes) None l) (keeps_kept w first parts n part 0 bytes h l (omega (arith, place))))
+
+-- the part in the first place is put behind the bytes in order
+pub gather_step : (w v : Inbox) → v ≡ gathered w (unwrap_or (part_at w.slots 0) []) → is_some (part_at w.slots 0) ≡ true
+    → ((first : ℕ) (parts : Parts) (n : ℕ) → Keeps w first parts n → Keeps v first parts n) × (left_of v ≡ left_of w ++ unwrap_or (part_at w.slots 0) [])
+gather_step w v e some = (λ first parts n h. subst (λ u. Keeps u first parts n) (sym e) (keeps_gathered w first parts n (unwrap_or (part_at w.slots 0) []) (same (part_at w.slots 0) some) h), ap left_of e)
+  where
+    same : (p : Option (List ℕ)) → is_some p ≡ true → p ≡ Some (unwrap_or p [])
+    same None h = absurd (cc)
+    same (Some b) h = refl
 
 pub missing : (p : Option (List ℕ)) → is_some p ≡ false → p ≡ None
 missing None h = refl
 missing (Some bytes) h = absurd (cc)
 
-pub adds : (w k v : Inbox) (part ahead : ℕ) (bytes : List ℕ) → k ≡ kept w part ahead bytes → part_at w.slots ahead ≡ None → IsWithin (part_at w.slots 0) w.used → left_of v ≡ left_of k → (more : List ℕ) × (left_of v ≡ left_of w ++ more)
-adds w k v part ahead bytes e none within same =
-    let more = set_adds w.slots ahead w.used bytes none within in (more.0, same ∙ ap left_of e ∙ more.1)
+-- no part is at a place from the next part on
+pub missing_ahead : (w : Inbox) (k : ℕ) → false ≡ (ltb k (length w.lengths) || is_some (part_at w.slots (k - length w.lengths))) → (length w.lengths ≤ k) × (part_at w.slots (k - length w.lengths) ≡ None)
+missing_ahead w k h = by_place (cases_lt k (length w.lengths))
+  where
+    by_place : (k < length w.lengths) ⊎ (length w.lengths ≤ k) → (length w.lengths ≤ k) × (part_at w.slots (k - length w.lengths) ≡ None)
+    by_place (inl less) =
+        let yes : ltb k (length w.lengths) ≡ true = grind (arith, nat_tests) in
+        let f : false ≡ true = h ∙ ap (λ b. b || is_some (part_at w.slots (k - length w.lengths))) yes in
+        absurd (cc)
+    by_place (inr ge) =
+        let no : ltb k (length w.lengths) ≡ false = grind (arith, nat_tests) in
+        (ge, missing _ (sym (h ∙ ap (λ b. b || is_some (part_at w.slots (k - length w.lengths))) no)))
 
--- a buffer whose end from `count` on was written
-pub filled : (count : ℕ) (out piece : List ℕ) → count ≤ length out → put_mid count (length out - count) out piece ≡ take count out ++ piece
-filled count out piece l =
-    ap (λ xs. take count out ++ (piece ++ xs)) (drop_all (length out - count) (drop count out) (omega (arith, length-drop count out)))
-    ∙ ap (λ xs. take count out ++ xs) (append-nil piece)
-
--- the state of a loop that pulls piece by piece, one piece on
-pub piece_bytes : (count r : ℕ) (out piece left : List ℕ) → count ≤ length out → length piece ≡ length out - count → take count out ≡ take count left → take r piece ≡ take r (drop count left) → take (count + r) (put_mid count (length out - count) out piece) ≡ take (count + r) left
-piece_bytes count r out piece left l size before now =
-    ap (take (count + r)) (filled count out piece l)
-    ∙ ap (λ n. take (n + r) (take count out ++ piece)) (sym (length-take-le count out l))
-    ∙ take-append-add (take count out) piece r
-    ∙ ap (λ xs. xs ++ take r piece) before ∙ ap (λ xs. take count left ++ xs) now
-    ∙ sym (take-add count r left)
-
-pub piece_rest : (count r : ℕ) (out piece from : List ℕ) → count ≤ length out → drop count out ≡ drop count from → drop r piece ≡ drop r (drop count out) → drop (count + r) (put_mid count (length out - count) out piece) ≡ drop (count + r) from
-piece_rest count r out piece from l before now =
-    ap (drop (count + r)) (filled count out piece l)
-    ∙ ap (λ n. drop (n + r) (take count out ++ piece)) (sym (length-take-le count out l))
-    ∙ drop-append-add (take count out) piece r
-    ∙ now ∙ ap (drop r) before ∙ drop-drop r count from
-
-pub piece_within : (count r : ℕ) (out piece : List ℕ) → count ≤ length out → length piece ≡ length out - count → r ≤ length out - count → count + r ≤ length (put_mid count (length out - count) out piece)
-piece_within count r out piece l size within =
-    omega (arith, ap length (filled count out piece l), length-append (take count out) piece, length-take-le count out l)
+pub verdict_is : (first : ℕ) (parts : Parts) (n part : ℕ) (there : Bool) → first + drained parts n ≤ part → part < first + drained parts n + 64 → there ≡ has_part first parts part → cond there Again New ≡ verdict 64 first parts n part
+verdict_is first parts n part there low high e =
+    let a : ltb part (first + drained parts n) ≡ false = grind (arith, nat_tests) in
+    let b : leb (first + drained parts n + 64) part ≡ false = grind (arith, nat_tests) in
+    ap (λ t. cond t Again New) e
+    ∙ sym (ap (λ t. cond t (Beyond (first + drained parts n + 64)) (cond (has_part first parts part) Again New)) b)
+    ∙ sym (ap (λ t. cond t Again (cond (leb (first + drained parts n + 64) part) (Beyond (first + drained parts n + 64)) (cond (has_part first parts part) Again New))) a)
 
 -- ---- laws
 pub put_adds : (parts : Parts) (k : ℕ) (bytes : List ℕ) → part_at parts k ≡ None → (more : List ℕ) × (passed (put parts k bytes) ≡ passed parts ++ more)

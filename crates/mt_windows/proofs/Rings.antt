@@ -53,3 +53,9 @@ turned (y ∷ xs) x h =
 pub length_turned : {X : Type 0} (xs : List X) → length (drop 1 xs ++ take 1 xs) ≡ length xs
 length_turned [] = refl
 length_turned (x ∷ xs) = length_push xs x ∙ (let e : length xs + 1 ≡ suc (length xs) = omega arith in e)
+
+-- ---- a ring that has room keeps all when one more is put behind
+pub pushed : (xs : List ℕ) (x room : ℕ) → length xs < room → drop (length (xs ++ x ∷ []) - room) (xs ++ x ∷ []) ≡ xs ++ x ∷ []
+pushed xs x room less =
+    let none : length (xs ++ x ∷ []) - room ≡ 0 = omega (arith, length_push xs x) in
+    ap (λ n. drop n (xs ++ x ∷ [])) none

@@ -28,21 +28,21 @@ pub record Outbox : Type 0 where
 -- what is true of a part in flight
 abbrev pub IsFlight : Option (List ℕ) → ℕ → ℕ → Type 0
 IsFlight None latest made = Unit {0}
-IsFlight (Some bytes) latest made = (length bytes ≤ 1000) × (latest < made)
+IsFlight (Some bytes) latest made = (length bytes ≤ PART) × (latest < made)
 
 -- what is true of every window
 pub record IsSoundOut (w : Outbox) : Type 0 where
   pub some_first : 1 ≤ w.first
-  pub places : length w.flights ≡ 64
+  pub places : length w.flights ≡ WINDOW
   pub base_bound : w.base ≤ w.cut
-  pub cut_bound : w.cut ≤ w.base + 64
+  pub cut_bound : w.cut ≤ w.base + WINDOW
   pub parts_bound : w.first + w.cut ≤ 2 ^ 62
   pub made_bound : w.first + w.made ≤ 2 ^ 62
   pub told_bound : w.told ≤ w.made
-  pub reach_bound : w.made ≤ w.told + 4096
-  pub carried_bound : length w.carried ≤ 4096
+  pub reach_bound : w.made ≤ w.told + SPAN
+  pub carried_bound : length w.carried ≤ SPAN
   pub carried_made : length w.carried ≤ w.made
-  pub waiting_bound : length w.waiting ≤ 2097152
+  pub waiting_bound : length w.waiting ≤ QUEUE
   pub early : (k : ℕ) → (flight_at w.flights k).earliest ≤ w.made
   pub fits : (k : ℕ) → IsFlight (slot_at w.flights k) (flight_at w.flights k).latest w.made
 

@@ -6,8 +6,8 @@
 //! a count of pulled bytes, a [`Seen`] for the list of noted numbers, a [`SendWindow`] for the list
 //! of what was given, cut, sent again and told. Each call's contract says what it gives of that
 //! history, and which history the window stands for afterwards. What a window keeps of it, rings and
-//! words of bits, is seen only where it is lent: [`SendWindow::waiting`], [`ReceiveWindow::words`]
-//! and [`Seen::words`].
+//! words of bits, is seen only where it is lent: [`SendWindow::waiting`], [`ReceiveWindow::ordered`],
+//! [`ReceiveWindow::words`] and [`Seen::words`].
 #![tactic(auto)]
 
 mod bits;

@@ -15,13 +15,13 @@ pub struct Slot {
 }
 
 impl Model for Slot {
-    ghost use Rattle.std.specs.Prelude.{ℕ, ◌≤◌, List, Option, Some, None, if◌then◌else◌, vec_capacity};
+    ghost use Rattle.std.specs.Prelude.{ℕ, ◌≤◌, List, Option, Some, None, if◌then◌else◌, length, vec_capacity};
 
     ghost Value = { Option (List ℕ) };
 
     ghost view = { λ s. if s.filled then Some s.bytes.items else None };
 
-    ghost invariant = { λ s. 1232 ≤ vec_capacity s.bytes };
+    ghost invariant = { λ s. record { room : 1232 ≤ vec_capacity s.bytes; fits : length s.bytes.items ≤ 1232 } };
 }
 
 impl Slot {
@@ -46,7 +46,8 @@ impl Slot {
     /// The bytes of the part in it.
     pub fn bytes(&self) -> &[u8]
         requires { IsSome self.now }
-        ensures { self.now ≡ Some result.now }
+        ensures bytes { self.now ≡ Some result.now }
+        ensures fits { length result.now ≤ 1232 }
     {
         self.bytes.as_slice()
     }

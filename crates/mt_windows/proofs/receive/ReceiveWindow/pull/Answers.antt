@@ -1,28 +1,23 @@
-use Rattle.std.proofs.Common.{◌≡◌, ◌-◌, ap, ◌+◌, ◌∙◌, subst, arith, length, take, drop, length-drop, add_assoc}
-use Rattle.std.proofs.lemmas.List.{drop-drop, take_rest}
-use Rattle.mt_windows.specs.ArrivedView.{Receives, left_of}
-use Rattle.mt_windows.proofs.Order.{receives_left, piece_bytes, piece_rest, piece_within}
+use Rattle.std.proofs.Common.{ℕ, ◌+◌, ◌≤◌, length, sym, ap, subst, arith}
+use Rattle.circular_buffer.specs.Buffer.{Buffer}
+use Rattle.mt_windows.specs.ArrivedView.{Inbox, Keeps, Receives}
+use Rattle.mt_windows.proofs.Order.{keeps_drawn, receives_left}
+use Rattle.mt_windows.proofs.Marked.{inbox, used_bound}
 use Rattle.mt_windows.proofs.receive.ReceiveWindow.pull.Goals as goal
 
-pub loop-count-preserved : goal.loop-count-preserved
-loop-count-preserved g c =
-    let i = c.loop-count.invariant in
-    let e = c.pull_front-count.ensures in
-    let part = take_rest c.loop-count.out c.loop-count.count in
-    let room = ap length part in
-    let long = length-drop c.loop-count.count c.loop-count.out in
-    let size : length c.pull_front-count.new.out ≡ length c.loop-count.out - c.loop-count.count = omega (arith, c.pull_front-count.auto.out) in
-    record {
-      within = piece_within c.loop-count.count c.pull_front-count.result c.loop-count.out c.pull_front-count.new.out i.within size (omega (arith, e.within));
-      some = omega (arith, e.some, ap length i.left, length-drop c.loop-count.count (left_of c.args.self.now));
-      bytes = piece_bytes c.loop-count.count c.pull_front-count.result c.loop-count.out c.pull_front-count.new.out _ i.within size i.bytes (e.bytes ∙ ap (take c.pull_front-count.result) i.left);
-      rest = piece_rest c.loop-count.count c.pull_front-count.result c.loop-count.out c.pull_front-count.new.out _ i.within i.rest (e.rest ∙ ap (drop c.pull_front-count.result) part);
-      left = e.left ∙ ap (drop c.pull_front-count.result) i.left ∙ drop-drop c.pull_front-count.result c.loop-count.count (left_of c.args.self.now);
-      holds = λ first parts n h. subst (Receives c.pull_front-count.new.self first parts) (add_assoc n c.loop-count.count c.pull_front-count.result) (e.holds first parts (n + c.loop-count.count) (i.holds first parts n h).keeps);
-    }
+pub overflow_add-self : goal.overflow_add-self
+overflow_add-self g c = omega (arith, used_bound _ c.self.invariant.sound, c.read_into-count.ensures.count)
 
-pub returns-else-is_filled-clause-next : goal.returns-else-is_filled-clause-next
-returns-else-is_filled-clause-next g c first parts n h = receives_left _ first parts n h.keeps
+pub returns-clause-next : goal.returns-clause-next
+returns-clause-next g c first parts n h = receives_left _ first parts n h
 
-pub returns-after-loop-count-clause-next : goal.returns-after-loop-count-clause-next
-returns-after-loop-count-clause-next g c first parts n h = receives_left _ first parts n h.keeps
+pub returns-clause-holds : goal.returns-clause-holds
+returns-clause-holds g c first parts n h =
+    let w = c.self.inside in
+    let v : Inbox = inbox w.first w.passed w.lengths.items w.used w.ordered.items w.greatest w.slots in
+    let r = c.read_into-count.result in
+    let now = subst (λ u. Receives u first parts n) (sym c.self.view_is) h in
+    let items = ap (λ (b : Buffer ℕ). b.items) c.read_into-count.ensures.items in
+    let le : r ≤ length w.ordered.items = omega (arith, c.read_into-count.ensures.count) in
+    let moved = subst (λ xs. Keeps (inbox w.first w.passed w.lengths.items (w.used + r) xs w.greatest w.slots) first parts (n + r)) (sym items) (keeps_drawn v first parts n r le now.keeps) in
+    c.pass_drained.ensures.holds first parts (n + r) moved now.gap

@@ -14,7 +14,7 @@ returns-clause-bytes g c first t h =
     let i = c.self.invariant.sound in
     let k = c.args.part - w.first - w.base in
     let read = carried_slot w.flights k w.made c.carry.new.self c.get.result.now (omega (arith, i.places, i.cut_bound, there.0, there.1)) c.carry.ensures c.get.ensures in
-    let bytes = in_flight_piece v first t k (c.args.part - first) (flight_at w.flights k) c.bytes-bytes.result.now now refl (sym read ∙ c.bytes-bytes.ensures) (omega (arith, there.0, now.first_is)) in
+    let bytes = in_flight_piece v first t k (c.args.part - first) (flight_at w.flights k) c.bytes-bytes.result.now now refl (sym read ∙ c.bytes-bytes.ensures.bytes) (omega (arith, there.0, now.first_is)) in
     take_at c.copy_from_slice.new.self _ (length c.bytes-bytes.result.now) (ap length c.copy_from_slice.ensures.after) ∙ c.copy_from_slice.ensures.after ∙ sym bytes
 
 pub returns-clause-holds : goal.returns-clause-holds
