@@ -117,7 +117,7 @@ versions oc os c s c_is s_is = elim c_is [
     ]
 
 -- a hash that a SYN shows is the client's
-hash_named : (H : Type 0) (c : ℕ) → (c ≡ 0x0101 → H) → IfSome (named c) (λ v. false ≡ false → v ≡ 0x0101 → H)
+pub hash_named : (H : Type 0) (c : ℕ) → (c ≡ 0x0101 → H) → IfSome (named c) (λ v. false ≡ false → v ≡ 0x0101 → H)
 hash_named H c is = by_test (c == 0x0001)
   where
     by_test : (b : Bool) → IfSome (if b then None else Some c) (λ v. false ≡ false → v ≡ 0x0101 → H)
@@ -125,7 +125,7 @@ hash_named H c is = by_test (c == 0x0001)
     by_test false = λ _ e. is e
 
 -- a SYN+ACK shows none
-none_shown : (H : Type 0) (o : Option ℕ) → IfSome o (λ v. true ≡ false → v ≡ 0x0101 → H)
+pub none_shown : (H : Type 0) (o : Option ℕ) → IfSome o (λ v. true ≡ false → v ≡ 0x0101 → H)
 none_shown H None = tt
 none_shown H (Some v) = λ e _. absurd (no e)
   where

@@ -3,7 +3,9 @@ pub mod OpeningPackets
 pub mod Heard
 pub mod Agreeing
 pub mod Staying
+pub mod Second
 pub mod links
 pub mod LinkLemmas
 pub mod LinkSteps
 pub mod LinkDues
+pub mod OfTrace

@@ -18,7 +18,7 @@ use Rattle.link_core.specs.CoreView.{Stands, condition_of, layout_of}
 use Rattle.udp_open.specs.declared.settings.OpenSettings.{OpenSettings}
 use Rattle.udp_open.specs.declared.agreement.Agreement.{Agreement}
 use Rattle.udp_open.specs.Handshake.{agreed, owed, opening_due, opening_meant, closes, is_asking, is_due, is_time, timer as opening_timer, expiries, IsNextDue}
-use Rattle.udp_open.specs.LinkTrace.{is_of_opening, machine_layout, begins_by, copies, tellings, tells, with_entries, machine, due_by}
+use Rattle.udp_open.specs.LinkTrace.{is_for_machine, machine_layout, begins_by, copies, tellings, tells, with_entries, machine, due_by}
 use Rattle.udp_open.specs.LinkView.{Link, StandsLink, is_closed_state, closes_by, is_due_in, IsNextDueIn}
 use Rattle.udp_open.proofs.LinkLemmas.{before}
 use Rattle.udp_open.proofs.LinkSteps.{some_is, closed_same}
@@ -113,8 +113,8 @@ within : (s : OpenSettings) (t m : Trace Entry) (o : Option Agreement) (e : Entr
 within s t m None e h = omega (arith, h, goes_on t e, begins_moment s (agreed s (t ▷ e)) (given t) m)
 within s t m (Some a) (Gave bytes) h = h
 within s t m (Some a) (In now d took) h =
-    either_moment (is_of_opening s a d) m (copies s.role took) (In (max (moment t) now) d took ∷ []) (max (moment t) now)
-    (omega (arith, h, copies_moment s.role took m)) (omega (arith, h))
+    either_moment (is_for_machine s a d) m (In (max (moment t) now) d took ∷ []) (copies s.role took) (max (moment t) now)
+    (omega (arith, h)) (omega (arith, h, copies_moment s.role took m))
 within s t m (Some a) (Polled now out) h =
     either_moment (nat_lt 0 (owed s t)) m [] (Polled (max (moment t) now) out ∷ []) (max (moment t) now) (omega (arith, h)) (omega (arith, h))
 within s t m (Some a) (Pulled room bytes) h = h

@@ -1,5 +1,5 @@
 -- What each call does to the relation between a link and its trace.
-use Rattle.std.proofs.Common.{◌≡◌, ℕ, ◌-◌, ◌<◌, ◌≤◌, Bool, true, false, ◌||◌, nat_lt, max, List, [], ◌∷◌, ◌++◌, length, if◌then◌else◌, Option, Some, None, option_map, refl, sym, ap, ◌∙◌, subst, arith}
+use Rattle.std.proofs.Common.{◌≡◌, ℕ, ◌-◌, ◌<◌, ◌≤◌, Bool, true, false, not, ◌&&◌, ◌||◌, nat_lt, max, List, [], ◌∷◌, ◌++◌, length, if◌then◌else◌, Option, Some, None, option_map, refl, sym, ap, ◌∙◌, subst, arith}
 use Rattle.std.specs.Option.{IsSome}
 use Rattle.std.proofs.lemmas.Bool.{ltb-false}
 use Rattle.std.proofs.lemmas.List.Elements.{All-append}
@@ -10,21 +10,25 @@ use Rattle.carrier.specs.declared.state.Took.{Took}
 use Rattle.carrier.specs.declared.state.Took.TheVariants.{Used, Ignored}
 use Rattle.carrier.specs.declared.state.LinkState.TheVariants.{Open, Closed}
 use Rattle.carrier.specs.Due.{due}
-use Rattle.carrier.specs.Entries.{Entry, Gave, In, Polled, Pulled, moment, given}
+use Rattle.carrier.specs.Entries.{Entry, Gave, In, Polled, Pulled, moment, given, pulled}
 use Rattle.carrier.specs.Layout.{Layout, Datagram}
-use Rattle.carrier.specs.Law.{IsBytes, Faithful}
+use Rattle.carrier.specs.Law.{IsBytes, answer_reading, Faithful}
+use Rattle.carrier.specs.Receiving.{reading, received}
 use Rattle.carrier.specs.Sending.{is_closed, timer}
 use Rattle.link_machine.specs.MachineView.{Machine}
 use Rattle.link_core.specs.declared.layout.LinkLayout.{LinkLayout}
 use Rattle.link_core.specs.declared.layout.LinkLayout.TheVariants.{First, Second}
-use Rattle.link_core.specs.CoreView.{layout_by as core_layout, Core, Stands, condition_of, layout_of, link_layout}
+use Rattle.link_core.specs.CoreView.{layout_by as core_layout, Core, Stands, condition_of, is_second, layout_of, link_layout}
+use Rattle.udp1_core.specs.MachineView.{link_layout as first_link_layout}
+use Rattle.udp2_core.specs.SecondLayout.{second_layout}
 use Rattle.udp_open.specs.declared.settings.OpenSettings.{OpenSettings}
 use Rattle.udp_open.specs.declared.agreement.Agreement.{Agreement}
 use Rattle.udp_open.specs.declared.opening.OpenEnd.TheVariants.{Waiting, Agreed}
 use Rattle.udp_open.specs.Handshake.{agreed, opening_answered, opening_due, owed}
-use Rattle.udp_open.specs.LinkTrace.{is_of_opening, machine_layout, begins, copies, with_entries, machine, answered_by, due_by}
+use Rattle.udp_open.specs.LinkTrace.{is_for_machine, is_low, is_no_packet, is_of_opening, machine_layout, begins, copies, with_entries, machine, answered_by, due_by}
 use Rattle.udp_open.specs.LinkView.{Link, StandsBy, StandsLink, is_closed_state}
 use Rattle.udp_open.specs.OpeningView.{Handshake, Follows, AnswersFirst, SendsFirst, end_of}
+use Rattle.udp_open.proofs.Second.{low_refused, no_packet}
 use Rattle.udp_open.proofs.LinkLemmas.{machine_begins, machine_open, keeps_early, passes_open, ignores_in, passes_poll, opened, before, waits}
 
 -- ---- what a link follows of its opening
@@ -173,37 +177,59 @@ third true c x y z h g = cc
 third false true x y z h g = refl
 third false false x y z h g = cc
 
+fourth : {A : Type 0} (b c : Bool) (x y z : A) → b ≡ false → c ≡ false → (if b then x else (if c then y else (if b then x else z))) ≡ z
+fourth true c x y z h g = cc
+fourth false true x y z h g = cc
+fourth false false x y z h g = refl
+
 first : {A : Type 0} (b : Bool) (x y : A) → b ≡ true → (if b then x else y) ≡ x
 first true x y h = refl
 first false x y h = cc
 
--- a datagram that is none of its opening
+-- what a machine takes is none of the opening, and neither is what is no packet
+for_machine : (x y : Bool) → not (x || y) ≡ true → x ≡ false
+for_machine true y h = cc
+for_machine false y h = refl
+
+not_for_machine : (x y : Bool) → x ≡ true → not (x || y) ≡ false
+not_for_machine true y h = refl
+not_for_machine false y h = cc
+
+-- what it doesn't take, and is none of the opening, is no packet
+outside : (x y z : Bool) → x ≡ false → not (x || (y && z)) ≡ false → (y ≡ true) × (z ≡ true)
+outside true y z h g = cc
+outside false true true h g = (refl, refl)
+outside false true false h g = cc
+outside false false z h g = cc
+
+-- a datagram that its machine takes
 pub takes_in : (l : Link) (m : Core) (t : Trace Entry) (now : ℕ) (d : List ℕ) (took : Took) → IsSome (l.opening).agreement
-    → IsBytes d → ((a : Agreement) → (l.opening).agreement ≡ Some a → is_of_opening (l.opening).settings a d ≡ false)
+    → IsBytes d → ((a : Agreement) → (l.opening).agreement ≡ Some a → is_for_machine (l.opening).settings a d ≡ true)
     → ((u : Trace Entry) → Stands l.core u → Stands m (u ▷ In (max (l.opening).moment now) d took)) → layout_of m ≡ layout_of l.core
     → StandsLink l t
     → StandsLink (record l { opening = record l.opening { moment = max (l.opening).moment now }; core = m }) (t ▷ In now d took)
-takes_in l m t now d took met good plain step same h =
+takes_in l m t now d took met good mine step same h =
     let o = l.opening in
     let s = o.settings in
     let some = some_is o.agreement met in
     let a = some.0 in
     let b = before l t a some.1 h in
-    let follows = passes_open o t now d took a good some.1 (plain a some.1) h.follows in
+    let plain = for_machine (is_of_opening s a d) (is_no_packet a d) (mine a some.1) in
+    let follows = passes_open o t now d took a good some.1 plain h.follows in
     let at = subst (λ k. Stands m (machine s t ▷ In (max k now) d took)) (h.follows).moment_is (step (machine s t) b.stands) in
     let law = same ∙ b.law in
     let trace : machine s (t ▷ In now d took) ≡ machine s t ▷ In (max (moment t) now) d took =
     machine_open s t (In now d took) a b.agreed_is
-    ∙ ap (λ x. with_entries (machine s t) (if x then copies s.role took else In (max (moment t) now) d took ∷ [])) (plain a some.1) in
+    ∙ ap (λ x. with_entries (machine s t) (if x then In (max (moment t) now) d took ∷ [] else copies s.role took)) (mine a some.1) in
     let faithful : Faithful (machine_layout s a) (machine s t ▷ In (max (moment t) now) d took) = subst (λ x. Faithful x (machine s t ▷ In (max (moment t) now) d took)) law at.faithful in
-    let answer : took ≡ answered_by s t (Some a) d = faithful.0 ∙ sym (twice (is_closed (machine_layout s a) (machine s t)) (is_of_opening s a d) (Ignored reason.LinkClosed) (opening_answered s t d) _ (plain a some.1)) in
+    let answer : took ≡ answered_by s t (Some a) d = faithful.0 ∙ sym (twice (is_closed (machine_layout s a) (machine s t)) (is_of_opening s a d) (Ignored reason.LinkClosed) (opening_answered s t d) _ plain) in
     opened (record l { opening = record o { moment = max o.moment now }; core = m }) s t (In now d took) a refl follows (sym follows.agreement_is ∙ some.1)
     (subst (λ x. took ≡ answered_by s t x d) (sym b.agreed_is) answer) h.faithful
     (subst (λ x. Stands m x) (sym trace) at) law
 
--- an opening that comes where the machine is closed
+-- one that it doesn't take, and that comes where it is closed
 pub ignores : (l : Link) (t : Trace Entry) (now : ℕ) (d : List ℕ) → IsSome (l.opening).agreement
-    → ((a : Agreement) → (l.opening).agreement ≡ Some a → is_of_opening (l.opening).settings a d ≡ true)
+    → ((a : Agreement) → (l.opening).agreement ≡ Some a → is_for_machine (l.opening).settings a d ≡ false)
     → is_closed_state (condition_of l.core) ≡ true
     → StandsLink l t
     → StandsLink (record l { opening = record l.opening { moment = max (l.opening).moment now } }) (t ▷ In now d (Ignored reason.LinkClosed))
@@ -217,11 +243,40 @@ ignores l t now d met set closed h =
     let follows = ignores_in o t now d h.follows in
     let trace : machine s (t ▷ e) ≡ machine s t =
     machine_open s t e a b.agreed_is
-    ∙ ap (λ x. with_entries (machine s t) (if x then copies s.role (Ignored reason.LinkClosed) else In (max (moment t) now) d (Ignored reason.LinkClosed) ∷ [])) (set a some.1) in
+    ∙ ap (λ x. with_entries (machine s t) (if x then In (max (moment t) now) d (Ignored reason.LinkClosed) ∷ [] else copies s.role (Ignored reason.LinkClosed))) (set a some.1) in
     let answer : Ignored reason.LinkClosed ≡ answered_by s t (Some a) d =
     sym (first (is_closed (machine_layout s a) (machine s t)) (Ignored reason.LinkClosed) _ (sym (closed_same l.core (machine s t) (machine_layout s a) b.law b.stands) ∙ closed)) in
     opened (record l { opening = record o { moment = max o.moment now } }) s t e a refl follows (sym follows.agreement_is ∙ some.1)
     (subst (λ x. Ignored reason.LinkClosed ≡ answered_by s t x d) (sym b.agreed_is) answer) h.faithful
+    (subst (λ x. Stands l.core x) (sym trace) b.stands) b.law
+
+-- what is no packet that it reads, where it is open
+pub refuses : (l : Link) (t : Trace Entry) (now : ℕ) (d : List ℕ) → IsSome (l.opening).agreement → IsBytes d
+    → ((a : Agreement) → (l.opening).agreement ≡ Some a → is_for_machine (l.opening).settings a d ≡ false)
+    → ((a : Agreement) → (l.opening).agreement ≡ Some a → is_of_opening (l.opening).settings a d ≡ false)
+    → is_closed_state (condition_of l.core) ≡ false
+    → StandsLink l t
+    → StandsLink (record l { opening = record l.opening { moment = max (l.opening).moment now } }) (t ▷ In now d no_packet)
+refuses l t now d met good left plain closed h =
+    let o = l.opening in
+    let s = o.settings in
+    let e = In now d no_packet in
+    let some = some_is o.agreement met in
+    let a = some.0 in
+    let b = before l t a some.1 h in
+    let none = outside (is_of_opening s a d) (is_second a.version) (is_low d) (plain a some.1) (left a some.1) in
+    let follows = passes_open o t now d no_packet a good some.1 (plain a some.1) h.follows in
+    let trace : machine s (t ▷ e) ≡ machine s t =
+    machine_open s t e a b.agreed_is
+    ∙ ap (λ x. with_entries (machine s t) (if x then In (max (moment t) now) d no_packet ∷ [] else copies s.role no_packet)) (left a some.1) in
+    let going : is_closed (machine_layout s a) (machine s t) ≡ false = sym (closed_same l.core (machine s t) (machine_layout s a) b.law b.stands) ∙ closed in
+    let second : machine_layout s a ≡ second_layout = ap (λ x. if x then second_layout else first_link_layout s.initial a.peer_initial a.version) none.0 in
+    let answer : no_packet ≡ answered_by s t (Some a) d =
+    sym (fourth (is_closed (machine_layout s a) (machine s t)) (is_of_opening s a d) (Ignored reason.LinkClosed) (opening_answered s t d) _ going (plain a some.1)
+    ∙ subst (λ layout. answer_reading layout (received layout (machine s t)) (length (pulled (machine s t))) (reading layout d) ≡ no_packet) (sym second)
+    (ap (answer_reading second_layout (received second_layout (machine s t)) (length (pulled (machine s t)))) (low_refused d none.1))) in
+    opened (record l { opening = record o { moment = max o.moment now } }) s t e a refl follows (sym follows.agreement_is ∙ some.1)
+    (subst (λ x. no_packet ≡ answered_by s t x d) (sym b.agreed_is) answer) h.faithful
     (subst (λ x. Stands l.core x) (sym trace) b.stands) b.law
 
 -- an opening that comes where it is open, and what its machine makes of that
@@ -240,7 +295,7 @@ hears_open l n t now d took met set closed settings stays follows is step same h
     let b = before l t a some.1 h in
     let trace : machine s (t ▷ e) ≡ with_entries (machine s t) (copies s.role took) =
     machine_open s t e a b.agreed_is
-    ∙ ap (λ x. with_entries (machine s t) (if x then copies s.role took else In (max (moment t) now) d took ∷ [])) (set a some.1) in
+    ∙ ap (λ x. with_entries (machine s t) (if x then In (max (moment t) now) d took ∷ [] else copies s.role took)) (not_for_machine (is_of_opening s a d) (is_no_packet a d) (set a some.1)) in
     let answer : took ≡ answered_by s t (Some a) d =
     is ∙ sym (third (is_closed (machine_layout s a) (machine s t)) (is_of_opening s a d) (Ignored reason.LinkClosed) (opening_answered s t d) _
     (sym (closed_same l.core (machine s t) (machine_layout s a) b.law b.stands) ∙ closed) (set a some.1)) in

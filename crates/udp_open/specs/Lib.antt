@@ -5,3 +5,5 @@ pub mod Agreeing
 pub mod TwoLinks
 pub mod OneLink
 pub mod LinkView
+pub mod ThirdLink
+pub mod OfTrace

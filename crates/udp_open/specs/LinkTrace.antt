@@ -1,10 +1,10 @@
 -- The trace of a link that opens and then goes on as a machine of the layout that was agreed on: which
 -- of its calls reach the machine, what is answered and sent, and the law of its traces.
-use Rattle.std.specs.Prelude.{◌≡◌, ℕ, ◌%◌, ◌≤◌, ◌==◌, Bool, nat_lt, max, List, [], ◌∷◌, length, get_or, if◌then◌else◌, Option, Some, None, Result, is_ok, false}
+use Rattle.std.specs.Prelude.{◌≡◌, ℕ, ◌%◌, ◌≤◌, ◌==◌, Bool, not, ◌&&◌, ◌||◌, nat_le, nat_lt, max, List, [], ◌∷◌, length, get_or, if◌then◌else◌, Option, Some, None, Result, is_ok, false}
 use Rattle.mt_base.specs.declared.kinds.Role.{Role}
 use Rattle.mt_base.specs.declared.kinds.Role.TheVariants.{Server, Client}
 use Rattle.mt_base.specs.Trace.{Trace, Start, ◌▷◌}
-use Rattle.mt_windows.specs.declared.limits.TheConstants.{QUEUE}
+use Rattle.mt_windows.specs.declared.limits.TheConstants.{DATAGRAM, QUEUE}
 use Rattle.carrier.specs.declared.state.Took.{Took}
 use Rattle.carrier.specs.declared.state.Took.TheVariants.{Used, Ignored}
 use Rattle.carrier.specs.declared.state.Reason.{Reason}
@@ -38,6 +38,19 @@ is_of_opening settings a datagram =
     if is_second a.version then is_syn_copy settings.role (hears settings (Some a) (shown datagram))
     else has_syn datagram
 
+-- A packet of the second layout has at 7 its prefix byte (MS-RDPEUDP2 section 2.2), which is 0x40 at
+-- least. A datagram with a lower byte there is none; every SYN and SYN+ACK is such a one.
+abbrev pub is_low : List ℕ → Bool
+is_low datagram =
+    nat_le 8 (length datagram) && (nat_le (length datagram) DATAGRAM && nat_lt (get_or datagram 7 0) 0x40)
+
+abbrev pub is_no_packet : Agreement → List ℕ → Bool
+is_no_packet a datagram = is_second a.version && is_low datagram
+
+-- whether a datagram that comes to an open link is taken by its machine
+abbrev pub is_for_machine : OpenSettings → Agreement → List ℕ → Bool
+is_for_machine settings a datagram = not (is_of_opening settings a datagram || is_no_packet a datagram)
+
 -- the layout of the first machine, where this was agreed on
 abbrev pub layout_by : OpenSettings → Agreement → Layout
 layout_by settings a = first_link_layout settings.initial a.peer_initial a.version
@@ -64,11 +77,12 @@ abbrev pub copies : Role → Took → List Entry
 copies role Used = tellings role
 copies role (Ignored why) = []
 
--- What a call of an open link tells its machine: all but openings, at the link's own moments.
+-- What a call of an open link tells its machine: all but openings and what is no packet, at the link's
+-- own moments.
 abbrev pub reaches : OpenSettings → Agreement → Trace Entry → Entry → List Entry
 reaches settings a t (Gave bytes) = Gave bytes ∷ []
 reaches settings a t (In now datagram took) =
-    if is_of_opening settings a datagram then copies settings.role took else In (max (moment t) now) datagram took ∷ []
+    if is_for_machine settings a datagram then In (max (moment t) now) datagram took ∷ [] else copies settings.role took
 reaches settings a t (Polled now out) =
     if nat_lt 0 (owed settings t) then [] else Polled (max (moment t) now) out ∷ []
 reaches settings a t (Pulled room bytes) = Pulled room bytes ∷ []

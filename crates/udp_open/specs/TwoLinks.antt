@@ -6,30 +6,35 @@ use Rattle.mt_base.specs.declared.kinds.Role.{Role}
 use Rattle.mt_base.specs.declared.kinds.Role.TheVariants.{Server, Client}
 use Rattle.mt_base.specs.Ends.{other}
 use Rattle.mt_base.specs.Trace.{Trace, Start, ◌▷◌}
-use Rattle.mt_windows.specs.declared.limits.TheConstants.{WINDOW}
 use Rattle.mt_windows.specs.Arrived.{passed}
 use Rattle.carrier.specs.Entries.{Entry, given, pulled}
 use Rattle.carrier.specs.Layout.{Layout}
 use Rattle.carrier.specs.Joined.{Step, At, half, Timely}
 use Rattle.carrier.specs.TwoLinks.{AllRead, SettledArrive, arrived_from}
-use Rattle.udp1_core.specs.FirstLink.{link_layouts}
+use Rattle.link_core.specs.JoinedCores.{ahead, link_layouts, room}
 use Rattle.udp_open.specs.declared.settings.OpenSettings.{OpenSettings}
 use Rattle.udp_open.specs.Handshake.{agreed}
-use Rattle.udp_open.specs.OpeningView.{IsFirst}
-use Rattle.udp_open.specs.Agreeing.{AgreesWith}
+use Rattle.udp_open.specs.OpeningView.{IsOffered}
+use Rattle.udp_open.specs.Agreeing.{AgreesWith, IsHash}
 use Rattle.udp_open.specs.LinkTrace.{tells, LinkFaithful}
 use Rattle.udp_open.specs.LinkView.{Link, StandsLink}
 
 -- ---- the premises
 
+-- the lower of the versions that the ends offer
+abbrev pub lower_version : (Role → OpenSettings) → ℕ
+lower_version settings = min (settings Server).version (settings Client).version
+
 -- A server and a client of a reliable link, with these settings. Each keeps the law of a link that
--- opens. Of the datagrams that are sent on the link fewer than `late` overtake one that comes.
+-- opens. Of the datagrams that are sent on the link fewer than `late` overtake one that comes. The
+-- hashes are looked at where a SYN shows them.
 pub record LinkNet (late : ℕ) (settings : Role → OpenSettings) (w : Trace Step) : Type 0 where
   pub roles : (s : Role) → (settings s).role ≡ s
   pub kinds : (s : Role) → (settings s).kind ≡ Reliable
-  pub versions : (s : Role) → IsFirst (settings s).version
+  pub versions : (s : Role) → IsOffered (settings s).version
   pub initials : (s : Role) → (settings s).initial < 2 ^ 32
-  pub in_time : WINDOW + late ≤ 2 ^ 31
+  pub hashes : (s : Role) → (settings s).version ≡ 0x0101 → IsHash (settings s).cookie_hash
+  pub in_time : ahead (lower_version settings) + late ≤ room (lower_version settings)
   pub faithful : (s : Role) → LinkFaithful (settings s) (half s w)
   pub timely : Timely late w
 
@@ -50,8 +55,7 @@ machines settings (w ▷ At side e) =
 -- the layouts of the machines, by what the ends agree on
 abbrev pub layouts_of : (Role → OpenSettings) → Role → Layout
 layouts_of settings =
-    link_layouts (settings Server).initial (settings Client).initial
-    (min (settings Server).version (settings Client).version)
+    link_layouts (settings Server).initial (settings Client).initial (lower_version settings)
 
 -- ---- what holds
 
@@ -81,17 +85,18 @@ LinkPulled w s = (more : List ℕ) × (given (half s w) ≡ pulled (half (other 
 
 -- ---- two links of the code
 
-abbrev pub settings_by : OpenSettings → OpenSettings → Role → OpenSettings
-settings_by server client Server = server
-settings_by server client Client = client
+abbrev pub settings_of : Link → Link → Role → OpenSettings
+settings_of server client Server = (server.opening).settings
+settings_of server client Client = (client.opening).settings
 
 -- These links stand for the two ends of one.
 pub record JoinedLinks (late : ℕ) (server client : Link) (w : Trace Step) : Type 0 where
-  pub roles : (s : Role) → (settings_by (server.opening).settings (client.opening).settings s).role ≡ s
-  pub kinds : (s : Role) → (settings_by (server.opening).settings (client.opening).settings s).kind ≡ Reliable
-  pub versions : (s : Role) → IsFirst (settings_by (server.opening).settings (client.opening).settings s).version
-  pub initials : (s : Role) → (settings_by (server.opening).settings (client.opening).settings s).initial < 2 ^ 32
+  pub roles : (s : Role) → (settings_of server client s).role ≡ s
+  pub kinds : (s : Role) → (settings_of server client s).kind ≡ Reliable
+  pub versions : (s : Role) → IsOffered (settings_of server client s).version
+  pub initials : (s : Role) → (settings_of server client s).initial < 2 ^ 32
+  pub hashes : (s : Role) → (settings_of server client s).version ≡ 0x0101 → IsHash (settings_of server client s).cookie_hash
   pub server_stands : StandsLink server (half Server w)
   pub client_stands : StandsLink client (half Client w)
-  pub in_time : WINDOW + late ≤ 2 ^ 31
+  pub in_time : ahead (lower_version (settings_of server client)) + late ≤ room (lower_version (settings_of server client))
   pub timely : Timely late w

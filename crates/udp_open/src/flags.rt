@@ -11,3 +11,6 @@ pub const VERSION_3: u16 = 0x0101;
 
 /// The first version, which an opening need not name.
 pub const VERSION_1: u16 = 0x0001;
+
+/// The least prefix byte of the second layout: a short length of two bytes (MS-RDPEUDP2 section 2.2).
+pub const LOWEST_PREFIX: u8 = 0x40;

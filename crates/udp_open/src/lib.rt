@@ -6,7 +6,7 @@
 //! the datagrams of an opening, `carrier` with the calls of a link and what they answer,
 //! `mt_windows` with the limits of a link, and the kit's `sha2`. What the crates above use is that
 //! [`UdpLink`] is a `Carrier`, which opens and then goes on as the machine of the version agreed on,
-//! and that on two joined links of version 1 or 2, from their opening on, what arrives at one end is
+//! and that on two joined links of whatever version, from their opening on, what arrives at one end is
 //! what the other was given ([`two_links`], [`pulled_was_given`]). Of an [`Opening`] alone they use
 //! that it stands for a trace of its calls, in which each datagram is answered and each poll sends as
 //! the handshake says, that [`Opening::end`] is what was agreed on in it, and that two ends which
@@ -24,8 +24,10 @@ mod sending;
 mod settings;
 mod timer;
 
-pub use joined::{a_link_opens, pulled_was_given, two_links};
-pub use laws::{agreements_stay, both_agree, closed_for_good, openings_are_due};
+pub use joined::{a_link_opens, a_third_link_opens, pulled_was_given, two_links};
+pub use laws::{
+    a_link_is_its_trace, agreements_stay, both_agree, closed_for_good, openings_are_due,
+};
 pub use link::UdpLink;
 pub use opening::{OpenEnd, Opening};
 pub use settings::{OpenSettings, hash_cookie};

@@ -13,11 +13,12 @@ ghost use Rattle.carrier.specs.Entries.{Entry, Gave, In, Polled, Owed};
 ghost use Rattle.link_core.specs.CoreView.{Stands, layout_of, link_layout, condition_of};
 ghost use Rattle.udp_open.specs.OpeningView.{IsOffered, end_of};
 ghost use Rattle.udp_open.specs.LinkTrace.{LinkFaithful, begins, with_entries, is_of_opening, tellings};
+ghost use Rattle.udp_open.specs.OfTrace.{queued_after};
 ghost use Rattle.udp_open.specs.LinkView.{StandsLink, condition_in, left_in, load_in, IsNextDueIn, is_closed_state};
 
 use crate::opening::{OpenEnd, Opening};
 use crate::settings::OpenSettings;
-use carrier::{Carrier, GiveRefusal, LinkState, Reason, Took};
+use carrier::{Carrier, GiveRefusal, LinkState, Reason, Refusal2, Took};
 use link_core::LinkCore;
 use mt_base::{NoMemory, Role};
 use mt_windows::QUEUE;
@@ -143,13 +144,17 @@ impl UdpLink {
             (condition_in self.new ≡ IsClosed e) × (result ≡ Ignored reason.LinkClosed) }
         ensures stays_open { (e : ℕ) → condition_in self.new ≡ IsClosed e → condition_in self.old ≡ IsClosed e }
     {
-        if !self.opening.is_of_opening(datagram) {
+        if self.opening.is_for_machine(datagram) {
             self.opening.pass(now);
             return self.core.input(self.opening.moment(), datagram);
         }
         if self.is_closed() {
             self.opening.pass(now);
             return Took::Ignored(Reason::LinkClosed);
+        }
+        if !self.opening.is_of_opening(datagram) {
+            self.opening.pass(now);
+            return Took::Ignored(Reason::Second(Refusal2::ShortLength { at: 0 }));
         }
         let took = self.opening.input(now, datagram);
         match took {
@@ -284,7 +289,10 @@ impl Carrier for UdpLink {
         }
     }
 
-    fn queued(&self) -> usize {
+    fn queued(&self) -> usize
+        ensures value { result ≡ load_in self.now }
+        ensures history { (t : Trace Entry) → StandsLink self.now t → result ≡ queued_after self.now.opening.settings t }
+    {
         match self.opening.end() {
             OpenEnd::Waiting => self.early.len(),
             OpenEnd::Agreed { .. } => self.core.queued(),

@@ -12,12 +12,12 @@ ghost use Rattle.carrier.specs.States.{written};
 ghost use Rattle.udp1_packets.specs.Layout.{spelled};
 ghost use Rattle.udp_open.specs.declared.agreement.Agreement.{Agreement};
 ghost use Rattle.udp_open.specs.declared.opening.OpenEnd.TheVariants.{Agreed as IsAgreed};
-ghost use Rattle.udp_open.specs.LinkTrace.{has_syn, is_of_opening, is_syn_copy};
+ghost use Rattle.udp_open.specs.LinkTrace.{has_syn, is_for_machine, is_low, is_no_packet, is_of_opening, is_syn_copy};
 ghost use Rattle.udp_open.specs.Handshake.{agreed, expiries, hears, shown, row, is_closed, asked, is_time, started, owed_by, syn_ack, opening_answered, opening_due, IsNextDue};
 ghost use Rattle.udp_open.specs.OpeningView.{IsOffered, IsTimer, Follows, StandsOpen, AnswersFirst, SendsFirst, end_of, after_asking, next_syn};
 
 use crate::agreement::Agreement;
-use crate::flags::VERSION_3;
+use crate::flags::{LOWEST_PREFIX, VERSION_3};
 use crate::hearing::hear;
 use crate::sending::{send_syn, send_syn_ack};
 use crate::settings::OpenSettings;
@@ -175,6 +175,25 @@ impl Opening {
         match self.agreement {
             Some(agreement) if agreement.version == VERSION_3 => self.is_syn_copy(datagram),
             _ => has_syn(datagram),
+        }
+    }
+
+    /// Whether the machine of the open link takes a datagram: one that is none of the opening and, in
+    /// version 0x0101, may be a packet by its byte at 7 (MS-RDPEUDP2 section 2.2).
+    pub(crate) fn is_for_machine(&self, datagram: &[u8]) -> bool
+        ensures { (a : Agreement) → self.now.agreement ≡ Some a →
+            result ≡ is_for_machine self.now.settings a datagram.now }
+    {
+        !(self.is_of_opening(datagram) || self.is_no_packet(datagram))
+    }
+
+    /// Whether a datagram can't be a packet in the version of the open link, by its byte at 7.
+    fn is_no_packet(&self, datagram: &[u8]) -> bool
+        ensures { (a : Agreement) → self.now.agreement ≡ Some a → result ≡ is_no_packet a datagram.now }
+    {
+        match self.agreement {
+            Some(agreement) if agreement.version == VERSION_3 => is_low(datagram),
+            _ => false,
         }
     }
 
@@ -349,4 +368,12 @@ fn has_syn(datagram: &[u8]) -> bool
         Some(flags) => flags % 2 == 1,
         None => false,
     }
+}
+
+/// Whether a datagram has at 7 a byte below 0x40, which is no prefix byte of the second layout
+/// (MS-RDPEUDP2 section 2.2).
+fn is_low(datagram: &[u8]) -> bool
+    ensures { result ≡ is_low datagram.now }
+{
+    8 <= datagram.len() && datagram.len() <= DATAGRAM && datagram[7] < LOWEST_PREFIX
 }

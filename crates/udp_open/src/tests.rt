@@ -24,9 +24,11 @@ const OTHER_SYN: [u8; 20] = [
 #[test]
 fn laws_hold() {
     both_agree();
+    a_link_is_its_trace();
     openings_are_due();
     agreements_stay();
     closed_for_good();
     two_links();
     a_link_opens();
+    a_third_link_opens();
 }

@@ -1,6 +1,6 @@
 -- The flag SYN of the datagrams that come and are sent.
 use Rattle.std.proofs.Common.{◌≡◌, ℕ, ◌+◌, ◌*◌, ◌%◌, ◌<◌, ◌≤◌, Bool, true, false, ◌&&◌, not, bit_and, List, length, drop, get_or, slice_index, Option, Some, None, Result, Ok, Err, refl, sym, ap, ◌∙◌, subst, length-drop, arith}
-use Rattle.std.specs.Prelude.{nat_lt, ◌==◌, if◌then◌else◌}
+use Rattle.std.specs.Prelude.{nat_le, nat_lt, ◌==◌, if◌then◌else◌}
 use Rattle.std.specs.Option.{option_map, is_some}
 use Rattle.std.proofs.lemmas.Bool.{ltb-false}
 use Rattle.std.proofs.lemmas.Bool.Decides.{nat_tests}
@@ -27,8 +27,10 @@ use Rattle.udp_open.specs.declared.settings.OpenSettings.{OpenSettings}
 use Rattle.udp_open.specs.declared.agreement.Agreement.{Agreement}
 use Rattle.udp_open.specs.declared.timer.Timer.{Timer}
 use Rattle.udp_open.specs.Handshake.{packet_or, opening, marks_of, names, syn, syn_ack, sent, is_time, row}
-use Rattle.udp_open.specs.Agreeing.{is_syn, shows_syn, is_opening}
-use Rattle.udp_open.specs.LinkTrace.{has_syn}
+use Rattle.udp_open.specs.Agreeing.{is_syn, shows_syn, is_opening, IsHash}
+use Rattle.udp_open.specs.LinkTrace.{has_syn, is_low}
+use Rattle.udp_open.proofs.Agreeing.{hash_named, none_shown}
+use Rattle.udp_open.proofs.OpeningPackets.{Hashes, is_whole}
 
 -- ---- what is read where the flag is not set
 
@@ -187,11 +189,12 @@ machine_plain d = by_load d.load
     by_load : (load : Option Carried) → has_syn (spelled (record { ack = low (named_in d.telling); window = WINDOW; marks = 0; body = body_of d load })) ≡ false
     by_load load = ap (λ n. n == 1) (even load)
 
--- those of an opening have it
-opening_has : (s : OpenSettings) (answer : Bool) (ack : ℕ) (version : Option ℕ) → has_syn (spelled (opening s answer ack version)) ≡ true
-opening_has s answer ack version = by_marks s.kind answer version
+-- the low byte of the flags of an opening, or of one that answers
+opening_byte : (s : OpenSettings) (answer : Bool) (ack : ℕ) (version : Option ℕ)
+    → get_or (spelled (opening s answer ack version)) 7 0 ≡ (if answer then 0x05 else 0x01)
+opening_byte s answer ack version = by_marks s.kind answer version
   where
-    by_marks : (kind : Kind) (answer : Bool) (version : Option ℕ) → ((marks_of kind + (0x0001 + flag_if answer 0x0004 + 0 + flag_if (is_some (option_map (names answer s.cookie_hash) version)) 0x1000)) % 256 % 2 == 1) ≡ true
+    by_marks : (kind : Kind) (answer : Bool) (version : Option ℕ) → (marks_of kind + (0x0001 + flag_if answer 0x0004 + 0 + flag_if (is_some (option_map (names answer s.cookie_hash) version)) 0x1000)) % 256 ≡ (if answer then 0x05 else 0x01)
     by_marks Reliable true None = refl
     by_marks Reliable true (Some v) = refl
     by_marks Reliable false None = refl
@@ -201,15 +204,64 @@ opening_has s answer ack version = by_marks s.kind answer version
     by_marks Lossy false None = refl
     by_marks Lossy false (Some v) = refl
 
+-- so it has the flag
+opening_has : (s : OpenSettings) (answer : Bool) (ack : ℕ) (version : Option ℕ) → has_syn (spelled (opening s answer ack version)) ≡ true
+opening_has s answer ack version = ap (λ n. n % 2 == 1) (opening_byte s answer ack version) ∙ by_answer answer
+  where
+    by_answer : (answer : Bool) → ((if answer then 0x05 else 0x01) % 2 == 1) ≡ true
+    by_answer true = refl
+    by_answer false = refl
+
+-- and is no packet of the second layout
+opening_low : (s : OpenSettings) (answer : Bool) (ack : ℕ) (version : Option ℕ) → Hashes s answer version → is_low (spelled (opening s answer ack version)) ≡ true
+opening_low s answer ack version hash =
+    ap (λ n. nat_le 8 n && (nat_le n DATAGRAM && nat_lt (get_or (spelled (opening s answer ack version)) 7 0) 0x40)) (is_whole s answer ack version hash)
+    ∙ ap (λ n. nat_lt n 0x40) (opening_byte s answer ack version) ∙ by_answer answer
+  where
+    by_answer : (answer : Bool) → nat_lt (if answer then 0x05 else 0x01) 0x40 ≡ true
+    by_answer true = refl
+    by_answer false = refl
+
 some_is : {A B : Type 0} (f : A → B) (b : Bool) (x : A) (out : B) → option_map f (if b then Some x else None) ≡ Some out → out ≡ f x
 some_is f true x out h = cc
 some_is f false x out h = cc
 
+-- what an opening sends is one of its two packets
+record IsSent (s : OpenSettings) (out : List ℕ) : Type 0 where
+  answer : Bool
+  ack : ℕ
+  version : Option ℕ
+  shows_hash : (s.version ≡ 0x0101 → IsHash s.cookie_hash) → Hashes s answer version
+  out_is : out ≡ spelled (opening s answer ack version)
+
+sent_is : (s : OpenSettings) (role : Role) (a : Option Agreement) (timer : Option Timer) (owed at : ℕ) (out : List ℕ)
+    → option_map spelled (sent s role a timer owed at) ≡ Some out → IsSent s out
+sent_is s Server None timer owed at out h = cc
+sent_is s Server (Some a) timer owed at out h = record {
+  answer = true;
+  ack = a.peer_initial;
+  version = if a.extended then Some a.version else None;
+  shows_hash = λ hash. none_shown (IsHash s.cookie_hash) (if a.extended then Some a.version else None);
+  out_is = some_is spelled (nat_lt 0 owed) (syn_ack s a) out h;
+}
+sent_is s Client None timer owed at out h = record {
+  answer = false;
+  ack = 0xFFFFFFFF;
+  version = if s.version == 0x0001 then None else Some s.version;
+  shows_hash = λ hash. hash_named (IsHash s.cookie_hash) s.version hash;
+  out_is = some_is spelled (is_time timer at && nat_lt (row timer) 16) (syn s) out h;
+}
+sent_is s Client (Some a) timer owed at out h = cc
+
 pub sent_has : (s : OpenSettings) (role : Role) (a : Option Agreement) (timer : Option Timer) (owed at : ℕ) (out : List ℕ)
     → option_map spelled (sent s role a timer owed at) ≡ Some out → has_syn out ≡ true
-sent_has s Server None timer owed at out h = cc
-sent_has s Server (Some a) timer owed at out h =
-    ap has_syn (some_is spelled (nat_lt 0 owed) (syn_ack s a) out h) ∙ opening_has s true a.peer_initial (if a.extended then Some a.version else None)
-sent_has s Client None timer owed at out h =
-    ap has_syn (some_is spelled (is_time timer at && nat_lt (row timer) 16) (syn s) out h) ∙ opening_has s false 0xFFFFFFFF (if s.version == 0x0001 then None else Some s.version)
-sent_has s Client (Some a) timer owed at out h = cc
+sent_has s role a timer owed at out h =
+    let i = sent_is s role a timer owed at out h in
+    ap has_syn i.out_is ∙ opening_has s i.answer i.ack i.version
+
+pub sent_low : (s : OpenSettings) (role : Role) (a : Option Agreement) (timer : Option Timer) (owed at : ℕ) (out : List ℕ)
+    → (s.version ≡ 0x0101 → IsHash s.cookie_hash)
+    → option_map spelled (sent s role a timer owed at) ≡ Some out → is_low out ≡ true
+sent_low s role a timer owed at out hash h =
+    let i = sent_is s role a timer owed at out h in
+    ap is_low i.out_is ∙ opening_low s i.answer i.ack i.version (i.shows_hash hash)

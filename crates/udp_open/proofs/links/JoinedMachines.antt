@@ -1,6 +1,5 @@
 -- The machines of two joined links are two joined machines, and what holds of them holds of the links.
-use Rattle.std.proofs.Common.{◌≡◌, ℕ, false, ◌++◌, List, [], ◌∷◌, Option, Some, None, refl, sym, ap, ◌∙◌, subst}
-use Rattle.std.specs.Prelude.{min}
+use Rattle.std.proofs.Common.{◌≡◌, ℕ, ◌++◌, List, [], ◌∷◌, Option, Some, None, refl, sym, ap, ◌∙◌, subst}
 use Rattle.mt_base.specs.declared.kinds.Role.{Role}
 use Rattle.mt_base.specs.declared.kinds.Role.TheVariants.{Server, Client}
 use Rattle.mt_base.specs.Ends.{other}
@@ -10,46 +9,47 @@ use Rattle.carrier.specs.Entries.{Entry, given, pulled}
 use Rattle.carrier.specs.Law.{Faithful}
 use Rattle.carrier.specs.Joined.{Step, half}
 use Rattle.carrier.specs.TwoLinks.{PassedWasGiven, PulledWasGiven, arrived_from}
-use Rattle.udp1_core.specs.FirstLink.{FirstLink}
-use Rattle.udp1_core.specs.MachineView.{link_layout}
-use Rattle.link_core.specs.CoreView.{is_second}
+use Rattle.link_core.specs.CoreView.{link_layout}
+use Rattle.link_core.specs.JoinedCores.{OneLink}
+use Rattle.link_core.proofs.Links.{client_is, server_is}
 use Rattle.udp_open.specs.declared.settings.OpenSettings.{OpenSettings}
 use Rattle.udp_open.specs.declared.agreement.Agreement.{Agreement}
 use Rattle.udp_open.specs.Handshake.{agreed}
 use Rattle.udp_open.specs.Agreeing.{AgreesWith}
 use Rattle.udp_open.specs.LinkTrace.{machine_layout, machine}
-use Rattle.udp_open.specs.TwoLinks.{LinkNet, LinkPassed, LinkPulled, layouts_of, machines}
-use Rattle.udp_open.proofs.links.Versions.{agreed_first, first_machine}
+use Rattle.udp_open.specs.TwoLinks.{LinkNet, LinkPassed, LinkPulled, layouts_of, lower_version, machines}
 use Rattle.udp_open.proofs.links.Opened.{link_agrees}
 use Rattle.udp_open.proofs.links.Machines.{machine_faithful, not_begun, given_same, pulled_same, halves}
 use Rattle.udp_open.proofs.links.Network.{machines_timely}
 
 -- the layout of a machine is the one that the ends agreed on
-layout_agreed : (settings : Role → OpenSettings) (s : Role) (a : Agreement) → is_second a.version ≡ false → AgreesWith settings s a → machine_layout (settings s) a ≡ layouts_of settings s
-layout_agreed settings Server a first h =
-    first_machine (settings Server) a first
-    ∙ ap (λ peer. link_layout (settings Server).initial peer a.version) h.peer_is
-    ∙ ap (link_layout (settings Server).initial (settings Client).initial) h.version_is
-layout_agreed settings Client a first h =
-    first_machine (settings Client) a first
-    ∙ ap (λ peer. link_layout (settings Client).initial peer a.version) h.peer_is
-    ∙ ap (link_layout (settings Client).initial (settings Server).initial) h.version_is
+layout_agreed : (settings : Role → OpenSettings) (s : Role) (a : Agreement) → AgreesWith settings s a → machine_layout (settings s) a ≡ layouts_of settings s
+layout_agreed settings Server a h =
+    let own = (settings Server).initial in
+    ap (λ peer. link_layout own peer a.version) h.peer_is
+    ∙ ap (link_layout own (settings Client).initial) h.version_is
+    ∙ server_is own (settings Client).initial (lower_version settings)
+layout_agreed settings Client a h =
+    let own = (settings Client).initial in
+    ap (λ peer. link_layout own peer a.version) h.peer_is
+    ∙ ap (link_layout own (settings Server).initial) h.version_is
+    ∙ client_is (settings Server).initial own (lower_version settings)
 
-pub first_link : (late : ℕ) (settings : Role → OpenSettings) (w : Trace Step) → LinkNet late settings w
-    → FirstLink late (settings Server).initial (settings Client).initial (min (settings Server).version (settings Client).version) (machines settings w)
-first_link late settings w h = record {
+pub joined_machines : (late : ℕ) (settings : Role → OpenSettings) (w : Trace Step) → LinkNet late settings w
+    → OneLink late (settings Server).initial (settings Client).initial (lower_version settings) (machines settings w)
+joined_machines late settings w h = record {
   server_number = h.initials Server;
   client_number = h.initials Client;
   in_time = h.in_time;
   faithful = faithful;
-  timely = machines_timely late settings h.versions w h.faithful h.timely;
+  timely = machines_timely late settings h.hashes w h.faithful h.timely;
 }
   where
     faithful : (s : Role) → Faithful (layouts_of settings s) (half s (machines settings w))
     faithful s =
         subst (Faithful (layouts_of settings s)) (sym (halves settings w s))
         (machine_faithful (settings s) (half s w) (layouts_of settings s) (h.faithful s)
-        (λ a is. layout_agreed settings s a (agreed_first (settings s) (half s w) a (h.versions s) is) (link_agrees late settings w s a h is)))
+        (λ a is. layout_agreed settings s a (link_agrees late settings w s a h is)))
 
 -- what is the beginning of what was given to a machine, is that of what was given to its link
 nothing_front : (front more all : List ℕ) → [] ≡ front ++ more → (rest : List ℕ) × (all ≡ front ++ rest)

@@ -15,7 +15,7 @@ use Rattle.carrier.specs.Joined.{Step, At, half}
 use Rattle.udp_open.specs.declared.settings.OpenSettings.{OpenSettings}
 use Rattle.udp_open.specs.declared.agreement.Agreement.{Agreement}
 use Rattle.udp_open.specs.Handshake.{agreed, owed}
-use Rattle.udp_open.specs.LinkTrace.{is_of_opening, machine_layout, begins, begins_by, copies, reaches, tells, with_entries, machine, Answers, LinkFaithful, KeepsMachine}
+use Rattle.udp_open.specs.LinkTrace.{is_for_machine, machine_layout, begins, begins_by, copies, reaches, tells, with_entries, machine, Answers, LinkFaithful, KeepsMachine}
 use Rattle.udp_open.specs.TwoLinks.{with_steps, machines}
 use Rattle.udp_open.proofs.Staying.{agreed_stays}
 
@@ -77,10 +77,10 @@ given_same s (t ▷ e) a h = by_agreement (agreed s t) refl (λ b is. given_same
     copied m Client Used = refl
     copied m Client (Ignored why) = refl
 
-    came : (m : Trace Entry) (role : Role) (syn : Bool) (now : ℕ) (datagram : List ℕ) (took : Took)
-        → given (with_entries m (if syn then copies role took else In now datagram took ∷ [])) ≡ given m
-    came m role true now datagram took = copied m role took
-    came m role false now datagram took = refl
+    came : (m : Trace Entry) (role : Role) (mine : Bool) (now : ℕ) (datagram : List ℕ) (took : Took)
+        → given (with_entries m (if mine then In now datagram took ∷ [] else copies role took)) ≡ given m
+    came m role true now datagram took = refl
+    came m role false now datagram took = copied m role took
 
     polled : (m : Trace Entry) (owes : Bool) (now : ℕ) (out : Option (List ℕ))
         → given (with_entries m (if owes then [] else Polled now out ∷ [])) ≡ given m
@@ -89,7 +89,7 @@ given_same s (t ▷ e) a h = by_agreement (agreed s t) refl (λ b is. given_same
 
     reached : (b : Agreement) (e : Entry) → given (machine s t) ≡ given t → given (with_entries (machine s t) (reaches s b t e)) ≡ given (t ▷ e)
     reached b (Gave bytes) old = ap (λ xs. xs ++ bytes) old
-    reached b (In now datagram took) old = came (machine s t) s.role (is_of_opening s b datagram) (max (moment t) now) datagram took ∙ old
+    reached b (In now datagram took) old = came (machine s t) s.role (is_for_machine s b datagram) (max (moment t) now) datagram took ∙ old
     reached b (Polled now out) old = polled (machine s t) (nat_lt 0 (owed s t)) (max (moment t) now) out ∙ old
     reached b (Pulled room bytes) old = old
     reached b (Owed count) old = old
@@ -134,10 +134,10 @@ pulled_same s (t ▷ e) law = by_agreement (agreed s t) refl (pulled_same s t la
     copied m Client Used = refl
     copied m Client (Ignored why) = refl
 
-    came : (m : Trace Entry) (role : Role) (syn : Bool) (now : ℕ) (datagram : List ℕ) (took : Took)
-        → pulled (with_entries m (if syn then copies role took else In now datagram took ∷ [])) ≡ pulled m
-    came m role true now datagram took = copied m role took
-    came m role false now datagram took = refl
+    came : (m : Trace Entry) (role : Role) (mine : Bool) (now : ℕ) (datagram : List ℕ) (took : Took)
+        → pulled (with_entries m (if mine then In now datagram took ∷ [] else copies role took)) ≡ pulled m
+    came m role true now datagram took = refl
+    came m role false now datagram took = copied m role took
 
     polled : (m : Trace Entry) (owes : Bool) (now : ℕ) (out : Option (List ℕ))
         → pulled (with_entries m (if owes then [] else Polled now out ∷ [])) ≡ pulled m
@@ -146,7 +146,7 @@ pulled_same s (t ▷ e) law = by_agreement (agreed s t) refl (pulled_same s t la
 
     reached : (b : Agreement) (e : Entry) → Answers s t e → pulled (machine s t) ≡ pulled t → pulled (with_entries (machine s t) (reaches s b t e)) ≡ pulled (t ▷ e)
     reached b (Gave bytes) answers old = old
-    reached b (In now datagram took) answers old = came (machine s t) s.role (is_of_opening s b datagram) (max (moment t) now) datagram took ∙ old
+    reached b (In now datagram took) answers old = came (machine s t) s.role (is_for_machine s b datagram) (max (moment t) now) datagram took ∙ old
     reached b (Polled now out) answers old = polled (machine s t) (nat_lt 0 (owed s t)) (max (moment t) now) out ∙ old
     reached b (Pulled room bytes) answers old = ap (λ xs. xs ++ bytes) old
     reached b (Owed count) answers old = old

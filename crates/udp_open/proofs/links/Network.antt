@@ -1,6 +1,6 @@
 -- The machines of two joined links are joined by the same network.
-use Rattle.std.proofs.Common.{◌≡◌, ◌⊎◌, inl, inr, ℕ, zero, suc, ◌<◌, ◌≤◌, Bool, true, false, List, [], ◌∷◌, length, Option, Some, None, refl, sym, ap, ◌∙◌, subst, arith}
-use Rattle.std.specs.Prelude.{nat_lt, max, if◌then◌else◌, IfSome}
+use Rattle.std.proofs.Common.{◌≡◌, ◌⊎◌, inl, inr, ℕ, zero, suc, ◌<◌, ◌≤◌, Bool, true, false, not, ◌&&◌, ◌||◌, List, [], ◌∷◌, length, Option, Some, None, refl, sym, ap, ◌∙◌, subst, arith}
+use Rattle.std.specs.Prelude.{nat_lt, max, if◌then◌else◌}
 use Rattle.link_core.specs.CoreView.{is_second}
 use Rattle.mt_base.specs.declared.kinds.Role.{Role}
 use Rattle.mt_base.specs.declared.kinds.Role.TheVariants.{Server, Client}
@@ -13,11 +13,10 @@ use Rattle.carrier.specs.Joined.{Step, At, half, SentAgo, Timely}
 use Rattle.udp_open.specs.declared.settings.OpenSettings.{OpenSettings}
 use Rattle.udp_open.specs.declared.agreement.Agreement.{Agreement}
 use Rattle.udp_open.specs.Handshake.{agreed, hears, owed, opening_due, shown}
-use Rattle.udp_open.specs.LinkTrace.{has_syn, is_of_opening, is_syn_copy, begins, begins_by, copies, reaches, tells, link_due, LinkFaithful}
+use Rattle.udp_open.specs.LinkTrace.{has_syn, is_for_machine, is_low, is_syn_copy, begins, begins_by, copies, reaches, tells, link_due, LinkFaithful}
 use Rattle.udp_open.specs.TwoLinks.{with_steps, machines}
-use Rattle.udp_open.specs.OpeningView.{IsFirst}
-use Rattle.udp_open.proofs.links.Versions.{agreed_first}
-use Rattle.udp_open.proofs.links.Opened.{ByMachine, sent_by, due_has}
+use Rattle.udp_open.specs.Agreeing.{IsHash}
+use Rattle.udp_open.proofs.links.Opened.{ByMachine, sent_by, due_has, due_low}
 
 -- ---- one call less
 
@@ -34,7 +33,7 @@ last_law : (settings : Role → OpenSettings) (w : Trace Step) (side : Role) (e 
 last_law settings w Server e laws = laws Server
 last_law settings w Client e laws = laws Client
 
--- ---- what was sent without the flag was sent by a machine
+-- ---- what no opening sends was sent by a machine
 
 -- a datagram that was sent, after which at most this many were sent
 pub record SentWithin (s : Role) (v : Trace Step) (k : ℕ) (datagram : List ℕ) : Type 0 where
@@ -42,7 +41,11 @@ pub record SentWithin (s : Role) (v : Trace Step) (k : ℕ) (datagram : List ℕ
   pub within : ago ≤ k
   pub sent : SentAgo s v ago datagram
 
-module _ (settings : Role → OpenSettings) (versions : (s : Role) → IsFirst (settings s).version) (s : Role) (d : List ℕ) (plain : has_syn d ≡ false) where
+-- no opening of these ends sends this datagram
+abbrev pub IsNoOpening : (Role → OpenSettings) → List ℕ → Type 0
+IsNoOpening settings d = (s : Role) (t : Trace Entry) (now : ℕ) → opening_due (settings s) t now ≡ Some d → ⊥
+
+module _ (settings : Role → OpenSettings) (s : Role) (d : List ℕ) (none : IsNoOpening settings d) where
   -- more was sent, after a datagram or not
   later : (v : Trace Step) (k : ℕ) → SentWithin s v k d → SentWithin s v (suc k) d
   later v k h = record { ago = h.ago; within = omega (arith, h.within); sent = h.sent }
@@ -64,10 +67,10 @@ module _ (settings : Role → OpenSettings) (versions : (s : Role) → IsFirst (
   copied v side Client Used k h = record { ago = h.ago; within = h.within; sent = h.sent }
   copied v side Client (Ignored why) k h = h
 
-  came : (v : Trace Step) (side role : Role) (syn : Bool) (now : ℕ) (datagram : List ℕ) (took : Took) (k : ℕ) → SentWithin s v k d
-      → SentWithin s (with_steps v side (if syn then copies role took else In now datagram took ∷ [])) k d
-  came v side role true now datagram took k h = copied v side role took k h
-  came v side role false now datagram took k h = record { ago = h.ago; within = h.within; sent = h.sent }
+  came : (v : Trace Step) (side role : Role) (mine : Bool) (now : ℕ) (datagram : List ℕ) (took : Took) (k : ℕ) → SentWithin s v k d
+      → SentWithin s (with_steps v side (if mine then In now datagram took ∷ [] else copies role took)) k d
+  came v side role true now datagram took k h = record { ago = h.ago; within = h.within; sent = h.sent }
+  came v side role false now datagram took k h = copied v side role took k h
 
   idle : (v : Trace Step) (side : Role) (owes : Bool) (now : ℕ) (k : ℕ) → SentWithin s v k d
       → SentWithin s (with_steps v side (if owes then [] else Polled now None ∷ [])) k d
@@ -86,7 +89,7 @@ module _ (settings : Role → OpenSettings) (versions : (s : Role) → IsFirst (
 
   reached : (t : Trace Entry) (v : Trace Step) (side : Role) (o : OpenSettings) (a : Agreement) (e : Entry) (k : ℕ) → Silent e → SentWithin s v k d → SentWithin s (with_steps v side (reaches o a t e)) k d
   reached t v side o a (Gave bytes) k quiet h = record { ago = h.ago; within = h.within; sent = h.sent }
-  reached t v side o a (In now datagram took) k quiet h = came v side o.role (is_of_opening o a datagram) (max (moment t) now) datagram took k h
+  reached t v side o a (In now datagram took) k quiet h = came v side o.role (is_for_machine o a datagram) (max (moment t) now) datagram took k h
   reached t v side o a (Polled now None) k quiet h = idle v side (nat_lt 0 (owed o t)) (max (moment t) now) k h
   reached t v side o a (Polled now (Some out)) k quiet h = absurd quiet
   reached t v side o a (Pulled room bytes) k quiet h = record { ago = h.ago; within = h.within; sent = h.sent }
@@ -105,15 +108,15 @@ module _ (settings : Role → OpenSettings) (versions : (s : Role) → IsFirst (
   told_poll t v side o (Some a) now out k h = polled v side (nat_lt 0 (owed o t)) (max (moment t) now) out k h
 
   -- this datagram is sent now
-  told_now : (t : Trace Entry) (v : Trace Step) (side : Role) (o : OpenSettings) (now : ℕ) (out : List ℕ) → IsFirst o.version → Some out ≡ link_due o t now → side ≡ s → out ≡ d
-      → SentWithin s (with_steps v side (tells o t (agreed o t) (Polled now (Some out)))) zero d
-  told_now t v side o now out first due here same = by_sender (sent_by o t now out first due)
+  told_now : (t : Trace Entry) (v : Trace Step) (side : Role) (now : ℕ) (out : List ℕ) → Some out ≡ link_due (settings side) t now → side ≡ s → out ≡ d
+      → SentWithin s (with_steps v side (tells (settings side) t (agreed (settings side) t) (Polled now (Some out)))) zero d
+  told_now t v side now out due here same = by_sender (sent_by o t now out due)
     where
+      o : OpenSettings
+      o = settings side
+
       by_sender : (opening_due o t now ≡ Some out) ⊎ ByMachine o t out → SentWithin s (with_steps v side (tells o t (agreed o t) (Polled now (Some out)))) zero d
-      by_sender (inl is) = let flag = due_has o t now out is in let none = ap has_syn same ∙ plain in absurd (both flag none)
-        where
-          both : has_syn out ≡ true → has_syn out ≡ false → ⊥
-          both yes' no' = cc
+      by_sender (inl is) = absurd (none side t now (is ∙ ap Some same))
       by_sender (inr m) =
           let now_told : tells o t (agreed o t) (Polled now (Some out)) ≡ Polled (max (moment t) now) (Some out) ∷ [] =
           ap (λ a. tells o t a (Polled now (Some out))) m.agreed_is ∙ ap (λ b. if b then [] else Polled (max (moment t) now) (Some out) ∷ []) m.none_owed in
@@ -122,7 +125,7 @@ module _ (settings : Role → OpenSettings) (versions : (s : Role) → IsFirst (
   pub by_machine : (w : Trace Step) (k : ℕ) → AllFaithful settings w → SentAgo s w k d → SentWithin s (machines settings w) k d
   by_machine Start k laws sent = absurd sent
   by_machine (w ▷ At side (Polled now (Some out))) zero laws sent =
-      told_now (half side w) (machines settings w) side (settings side) now out (versions side) (last_law settings w side (Polled now (Some out)) laws).0 sent.0 sent.1
+      told_now (half side w) (machines settings w) side now out (last_law settings w side (Polled now (Some out)) laws).0 sent.0 sent.1
   by_machine (w ▷ At side (Polled now (Some out))) (suc k) laws sent =
       told_poll (half side w) (machines settings w) side (settings side) (agreed (settings side) (half side w)) now out k
       (by_machine w k (laws_before settings w side (Polled now (Some out)) laws) sent)
@@ -169,32 +172,31 @@ module _ (late : ℕ) where
   copied_timely v side Client Used h = h
   copied_timely v side Client (Ignored why) h = h
 
-  came_timely : (v : Trace Step) (side role : Role) (syn : Bool) (now : ℕ) (datagram : List ℕ) (took : Took) → (syn ≡ false → InTime late side v datagram) → Timely late v
-      → Timely late (with_steps v side (if syn then copies role took else In now datagram took ∷ []))
-  came_timely v side role true now datagram took soon h = copied_timely v side role took h
-  came_timely v side role false now datagram took soon h = (soon refl, h)
+  came_timely : (v : Trace Step) (side role : Role) (mine : Bool) (now : ℕ) (datagram : List ℕ) (took : Took) → (mine ≡ true → InTime late side v datagram) → Timely late v
+      → Timely late (with_steps v side (if mine then In now datagram took ∷ [] else copies role took))
+  came_timely v side role true now datagram took soon h = (soon refl, h)
+  came_timely v side role false now datagram took soon h = copied_timely v side role took h
 
   polled_timely : (v : Trace Step) (side : Role) (owes : Bool) (now : ℕ) (out : Option (List ℕ)) → Timely late v
       → Timely late (with_steps v side (if owes then [] else Polled now out ∷ []))
   polled_timely v side true now out h = h
   polled_timely v side false now out h = h
 
-  -- what comes now came in time
-  abbrev Soon : Trace Step → Role → Entry → Type 0
-  Soon v side (In now datagram took) = has_syn datagram ≡ false → InTime late side v datagram
-  Soon v side e = Unit {0}
+  -- what comes now to a machine came in time
+  abbrev Soon : OpenSettings → Trace Step → Role → Entry → Option Agreement → Type 0
+  Soon o v side (In now datagram took) (Some a) = is_for_machine o a datagram ≡ true → InTime late side v datagram
+  Soon o v side e a = Unit {0}
 
-  told_timely : (t : Trace Entry) (v : Trace Step) (side : Role) (o : OpenSettings) (a : Option Agreement) (e : Entry) → IfSome a (λ b. is_second b.version ≡ false) → Soon v side e → Timely late v → Timely late (with_steps v side (tells o t a e))
-  told_timely t v side o None e first soon h = begun_timely v side o (agreed o (t ▷ e)) (given t) h
-  told_timely t v side o (Some a) (Gave bytes) first soon h = h
-  told_timely t v side o (Some a) (In now datagram took) first soon h =
-      came_timely v side o.role (is_of_opening o a datagram) (max (moment t) now) datagram took
-      (λ none. soon (sym (ap (λ b. if b then is_syn_copy o.role (hears o (Some a) (shown datagram)) else has_syn datagram) first) ∙ none)) h
-  told_timely t v side o (Some a) (Polled now out) first soon h = polled_timely v side (nat_lt 0 (owed o t)) (max (moment t) now) out h
-  told_timely t v side o (Some a) (Pulled room bytes) first soon h = h
-  told_timely t v side o (Some a) (Owed count) first soon h = h
-  told_timely t v side o (Some a) (Posted bytes) first soon h = h
-  told_timely t v side o (Some a) (Next bytes) first soon h = h
+  told_timely : (t : Trace Entry) (v : Trace Step) (side : Role) (o : OpenSettings) (a : Option Agreement) (e : Entry) → Soon o v side e a → Timely late v → Timely late (with_steps v side (tells o t a e))
+  told_timely t v side o None e soon h = begun_timely v side o (agreed o (t ▷ e)) (given t) h
+  told_timely t v side o (Some a) (Gave bytes) soon h = h
+  told_timely t v side o (Some a) (In now datagram took) soon h =
+      came_timely v side o.role (is_for_machine o a datagram) (max (moment t) now) datagram took soon h
+  told_timely t v side o (Some a) (Polled now out) soon h = polled_timely v side (nat_lt 0 (owed o t)) (max (moment t) now) out h
+  told_timely t v side o (Some a) (Pulled room bytes) soon h = h
+  told_timely t v side o (Some a) (Owed count) soon h = h
+  told_timely t v side o (Some a) (Posted bytes) soon h = h
+  told_timely t v side o (Some a) (Next bytes) soon h = h
 
   timely_before : (w : Trace Step) (side : Role) (e : Entry) → Timely late (w ▷ At side e) → Timely late w
   timely_before w side (Gave bytes) h = h
@@ -205,28 +207,38 @@ module _ (late : ℕ) where
   timely_before w side (Posted bytes) h = h
   timely_before w side (Next bytes) h = h
 
-  soon : (settings : Role → OpenSettings) → ((s : Role) → IsFirst (settings s).version) → (w : Trace Step) (side : Role) (e : Entry) → AllFaithful settings w → Timely late (w ▷ At side e) → Soon (machines settings w) side e
-  soon settings versions w side (In now datagram took) laws h = λ plain long.
-      let was = h.0 long in
-      let sent = by_machine settings versions (other side) datagram plain w was.0 laws was.2 in
-      (sent.ago, omega (arith, sent.within, was.1), sent.sent)
-  soon settings versions w side (Gave bytes) laws h = tt
-  soon settings versions w side (Polled now out) laws h = tt
-  soon settings versions w side (Pulled room bytes) laws h = tt
-  soon settings versions w side (Owed count) laws h = tt
-  soon settings versions w side (Posted bytes) laws h = tt
-  soon settings versions w side (Next bytes) laws h = tt
-
-  pub machines_timely : (settings : Role → OpenSettings) → ((s : Role) → IsFirst (settings s).version) → (w : Trace Step) → AllFaithful settings w → Timely late w → Timely late (machines settings w)
-  machines_timely settings versions Start laws h = tt
-  machines_timely settings versions (w ▷ At side e) laws h =
-      let before = laws_before settings w side e laws in
-      told_timely (half side w) (machines settings w) side (settings side) (agreed (settings side) (half side w)) e (agreed_at side) (soon settings versions w side e before h)
-      (machines_timely settings versions w before (timely_before w side e h))
+  -- no opening sends what a machine takes
+  taken_none : (settings : Role → OpenSettings) → ((s : Role) → (settings s).version ≡ 0x0101 → IsHash (settings s).cookie_hash)
+      → (o : OpenSettings) (a : Agreement) (d : List ℕ) → is_for_machine o a d ≡ true → IsNoOpening settings d
+  taken_none settings hashes o a d mine s t now is =
+      no_opening (is_second a.version) (is_syn_copy o.role (hears o (Some a) (shown d))) (has_syn d) (is_low d) (due_has (settings s) t now d is) (due_low (settings s) t now d (hashes s) is) mine
     where
-      agreed_at : (s : Role) → IfSome (agreed (settings s) (half s w)) (λ b. is_second b.version ≡ false)
-      agreed_at s = by_agreement (agreed (settings s) (half s w)) refl
-        where
-          by_agreement : (a : Option Agreement) → agreed (settings s) (half s w) ≡ a → IfSome a (λ b. is_second b.version ≡ false)
-          by_agreement None is = tt
-          by_agreement (Some a) is = agreed_first (settings s) (half s w) a (versions s) is
+      no_opening : (second copy syn low : Bool) → syn ≡ true → low ≡ true → not ((if second then copy else syn) || (second && low)) ≡ true → ⊥
+      no_opening true true syn low f g h = cc
+      no_opening true false syn true f g h = cc
+      no_opening true false syn false f g h = cc
+      no_opening false copy true low f g h = cc
+      no_opening false copy false low f g h = cc
+
+  soon : (settings : Role → OpenSettings) → ((s : Role) → (settings s).version ≡ 0x0101 → IsHash (settings s).cookie_hash)
+      → (w : Trace Step) (side : Role) (a : Option Agreement) (e : Entry) → AllFaithful settings w → Timely late (w ▷ At side e) → Soon (settings side) (machines settings w) side e a
+  soon settings hashes w side None (In now datagram took) laws h = tt
+  soon settings hashes w side (Some a) (In now datagram took) laws h = λ mine long.
+      let was = h.0 long in
+      let sent = by_machine settings (other side) datagram (taken_none settings hashes (settings side) a datagram mine) w was.0 laws was.2 in
+      (sent.ago, omega (arith, sent.within, was.1), sent.sent)
+  soon settings hashes w side a (Gave bytes) laws h = tt
+  soon settings hashes w side a (Polled now out) laws h = tt
+  soon settings hashes w side a (Pulled room bytes) laws h = tt
+  soon settings hashes w side a (Owed count) laws h = tt
+  soon settings hashes w side a (Posted bytes) laws h = tt
+  soon settings hashes w side a (Next bytes) laws h = tt
+
+  pub machines_timely : (settings : Role → OpenSettings) → ((s : Role) → (settings s).version ≡ 0x0101 → IsHash (settings s).cookie_hash)
+      → (w : Trace Step) → AllFaithful settings w → Timely late w → Timely late (machines settings w)
+  machines_timely settings hashes Start laws h = tt
+  machines_timely settings hashes (w ▷ At side e) laws h =
+      let before = laws_before settings w side e laws in
+      let a = agreed (settings side) (half side w) in
+      told_timely (half side w) (machines settings w) side (settings side) a e (soon settings hashes w side a e before h)
+      (machines_timely settings hashes w before (timely_before w side e h))

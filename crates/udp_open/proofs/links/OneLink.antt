@@ -1,5 +1,5 @@
 -- A small link meets what is asked of two joined links.
-use Rattle.std.proofs.Common.{◌≡◌, inl, inr, ◌<◌, ◌^◌, [], ◌∷◌, All, Some, refl, lit<, lit≤}
+use Rattle.std.proofs.Common.{◌≡◌, inl, inr, ◌<◌, ◌^◌, [], ◌∷◌, All, Some, refl, arith, lit<, lit≤}
 use Rattle.std.proofs.lemmas.List.Elements.{All-cons, All-nil}
 use Rattle.mt_base.specs.Nearness.{nearest}
 use Rattle.mt_base.specs.declared.kinds.Kind.TheVariants.{Reliable}
@@ -11,7 +11,8 @@ use Rattle.carrier.specs.Law.{Faithful}
 use Rattle.carrier.specs.Joined.{half, Timely}
 use Rattle.udp1_packets.specs.Reading.{body_at, data_at, number_where, packet_at, rest_at, told_at, vector_where, opening_at, syn_with, mtu_at, version_at, block32_at, extension_at, extended_at, zeros_at}
 use Rattle.udp_open.specs.Handshake.{agreed}
-use Rattle.udp_open.specs.OpeningView.{IsFirst}
+use Rattle.udp_open.specs.Agreeing.{IsHash}
+use Rattle.udp_open.specs.OpeningView.{IsOffered}
 use Rattle.udp_open.specs.LinkTrace.{machine_layout, LinkFaithful}
 use Rattle.udp_open.specs.TwoLinks.{LinkNet}
 use Rattle.udp_open.specs.OneLink.{one_agreement, one_link, one_settings}
@@ -21,10 +22,10 @@ unfolding packet_at body_at opening_at syn_with mtu_at version_at block32_at ext
 one_agrees Server = refl
 one_agrees Client = refl
 
-one_byte : All (λ b. b < 256) (0x41 ∷ [])
+pub one_byte : All (λ b. b < 256) (0x41 ∷ [])
 one_byte = All-cons (λ b. b < 256) 0x41 [] (lit< tt) (All-nil (λ b. b < 256))
 
-no_byte : All (λ b. b < 256) []
+pub no_byte : All (λ b. b < 256) []
 no_byte = All-nil (λ b. b < 256)
 
 -- the law of each machine, and then of its link, the last call first
@@ -50,6 +51,7 @@ one_net = record {
   kinds = kinds;
   versions = versions;
   initials = initials;
+  hashes = hashes;
   in_time = lit≤ tt;
   faithful = one_faithful;
   timely = one_timely;
@@ -63,9 +65,13 @@ one_net = record {
     kinds Server = refl
     kinds Client = refl
 
-    versions : (s : Role) → IsFirst (one_settings s).version
+    versions : (s : Role) → IsOffered (one_settings s).version
     versions Server = inl refl
-    versions Client = inr refl
+    versions Client = inr (inl refl)
+
+    hashes : (s : Role) → (one_settings s).version ≡ 0x0101 → IsHash (one_settings s).cookie_hash
+    hashes Server is = absurd (omega (arith, is))
+    hashes Client is = absurd (omega (arith, is))
 
     initials : (s : Role) → (one_settings s).initial < 2 ^ 32
     initials Server = lit< tt

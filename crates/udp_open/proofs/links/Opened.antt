@@ -1,25 +1,28 @@
 -- What a link sends is sent by its opening or by its machine; so two joined links agree.
-use Rattle.std.proofs.Common.{◌≡◌, ◌⊎◌, inl, inr, ℕ, Bool, true, false, List, Option, Some, None, refl, sym, ap, ◌∙◌, subst, arith}
+use Rattle.std.proofs.Common.{◌≡◌, ◌⊎◌, inl, inr, ℕ, Bool, true, false, List, Option, Some, None, refl, sym, ap, ◌∙◌}
 use Rattle.std.specs.Prelude.{nat_lt, max, if◌then◌else◌, IfSome}
 use Rattle.std.specs.Option.{option_map}
 use Rattle.mt_base.specs.declared.kinds.Role.{Role}
 use Rattle.mt_base.specs.Trace.{Trace, Start, ◌▷◌}
 use Rattle.carrier.specs.Entries.{Entry, Gave, In, Polled, Pulled, Owed, Posted, Next, moment}
 use Rattle.carrier.specs.Due.{due, meant}
+use Rattle.carrier.specs.Layout.{Layout}
 use Rattle.carrier.specs.Sending.{is_closed}
 use Rattle.carrier.specs.Joined.{Step, At, half, Timely}
 use Rattle.udp1_core.specs.FirstLayout.{packet_with}
 use Rattle.udp1_packets.specs.Layout.{spelled}
+use Rattle.udp2_core.specs.SecondLayout.{second_layout, packet_with as second_packet}
+use Rattle.udp2_packets.specs.Layout.{spelled as spelled_second}
+use Rattle.link_core.specs.CoreView.{is_second}
 use Rattle.udp_open.specs.declared.settings.OpenSettings.{OpenSettings}
 use Rattle.udp_open.specs.declared.agreement.Agreement.{Agreement}
 use Rattle.udp_open.specs.Handshake.{agreed, owed, timer, opening_due}
-use Rattle.udp_open.specs.OpeningView.{IsFirst, IsOffered}
-use Rattle.udp_open.specs.Agreeing.{is_opening, SendsDue, WasSent, Meet, AgreesWith}
-use Rattle.udp_open.specs.LinkTrace.{has_syn, layout_by, machine_layout, machine, link_due, due_by, LinkFaithful}
+use Rattle.udp_open.specs.Agreeing.{is_opening, IsHash, SendsDue, WasSent, Meet, AgreesWith}
+use Rattle.udp_open.specs.LinkTrace.{has_syn, is_low, layout_by, machine_layout, machine, link_due, due_by, LinkFaithful}
 use Rattle.udp_open.specs.TwoLinks.{LinkNet, AgreesIn}
 use Rattle.udp_open.proofs.Agreeing.{agrees}
-use Rattle.udp_open.proofs.links.Versions.{agreed_first, first_machine}
-use Rattle.udp_open.proofs.links.Flag.{opening_flag, machine_plain, sent_has}
+use Rattle.udp_open.proofs.Second.{second_plain}
+use Rattle.udp_open.proofs.links.Flag.{opening_flag, machine_plain, sent_has, sent_low}
 
 -- ---- who sends a datagram
 
@@ -41,17 +44,29 @@ opened_by true owes x y out h = cc
 opened_by false true x y out h = inl (refl, h)
 opened_by false false x y out h = inr (refl, h)
 
-pub sent_by : (s : OpenSettings) (t : Trace Entry) (now : ℕ) (out : List ℕ) → IsFirst s.version → Some out ≡ link_due s t now
+-- whatever its layout, a machine sends nothing with the flag SYN
+due_plain : (s : OpenSettings) (a : Agreement) (m : Trace Entry) (at : ℕ) (out : List ℕ) → Some out ≡ due (machine_layout s a) m at → has_syn out ≡ false
+due_plain s a m at out h = by_version (is_second a.version) h
+  where
+    first : Layout
+    first = layout_by s a
+
+    by_version : (b : Bool) → Some out ≡ due (if b then second_layout else first) m at → has_syn out ≡ false
+    by_version true h =
+        let was = mapped (λ d. spelled_second (second_packet d)) (meant second_layout m at) out h in
+        ap has_syn was.1 ∙ second_plain (second_packet was.0)
+    by_version false h =
+        let was = mapped (λ d. spelled (packet_with d)) (meant first m at) out h in
+        ap has_syn was.1 ∙ machine_plain was.0
+
+pub sent_by : (s : OpenSettings) (t : Trace Entry) (now : ℕ) (out : List ℕ) → Some out ≡ link_due s t now
     → (opening_due s t now ≡ Some out) ⊎ ByMachine s t out
-sent_by s t now out first h = by_agreement (agreed s t) refl h
+sent_by s t now out h = by_agreement (agreed s t) refl h
   where
     by_machine : (a : Agreement) → agreed s t ≡ Some a → nat_lt 0 (owed s t) ≡ false
         → Some out ≡ due (machine_layout s a) (machine s t) (max (moment t) now) → ByMachine s t out
     by_machine a is none h =
-        let same = first_machine s a (agreed_first s t a first is) in
-        let was = mapped (λ d. spelled (packet_with d)) (meant (layout_by s a) (machine s t) (max (moment t) now)) out
-        (subst (λ l. Some out ≡ due l (machine s t) (max (moment t) now)) same h) in
-        record { agreement = a; agreed_is = is; none_owed = none; plain = ap has_syn was.1 ∙ machine_plain was.0 }
+        record { agreement = a; agreed_is = is; none_owed = none; plain = due_plain s a (machine s t) (max (moment t) now) out h }
 
     by_agreement : (a : Option Agreement) → agreed s t ≡ a → Some out ≡ due_by s t a now → (opening_due s t now ≡ Some out) ⊎ ByMachine s t out
     by_agreement None is h = inl (sym h)
@@ -65,25 +80,30 @@ sent_by s t now out first h = by_agreement (agreed s t) refl h
 pub due_has : (s : OpenSettings) (t : Trace Entry) (now : ℕ) (out : List ℕ) → opening_due s t now ≡ Some out → has_syn out ≡ true
 due_has s t now out h = sent_has s s.role (agreed s t) (timer s t) (owed s t) (max (moment t) now) out h
 
+-- and a low byte at 7
+pub due_low : (s : OpenSettings) (t : Trace Entry) (now : ℕ) (out : List ℕ) → (s.version ≡ 0x0101 → IsHash s.cookie_hash)
+    → opening_due s t now ≡ Some out → is_low out ≡ true
+due_low s t now out hash h = sent_low s s.role (agreed s t) (timer s t) (owed s t) (max (moment t) now) out hash h
+
 -- ---- two links agree
 
 pub link_before : (s : OpenSettings) (t : Trace Entry) (e : Entry) → LinkFaithful s (t ▷ e) → LinkFaithful s t
 link_before s t e h = h.2
 
-sends_due : (s : OpenSettings) (t : Trace Entry) → IsFirst s.version → LinkFaithful s t → SendsDue s t
-sends_due s Start first h = tt
-sends_due s (t ▷ Gave bytes) first h = sends_due s t first h.2
-sends_due s (t ▷ In now datagram took) first h = sends_due s t first h.2
-sends_due s (t ▷ Polled now None) first h = sends_due s t first h.2
-sends_due s (t ▷ Polled now (Some out)) first h = ((λ o. by_sender o (sent_by s t now out first h.0)), sends_due s t first h.2)
+sends_due : (s : OpenSettings) (t : Trace Entry) → LinkFaithful s t → SendsDue s t
+sends_due s Start h = tt
+sends_due s (t ▷ Gave bytes) h = sends_due s t h.2
+sends_due s (t ▷ In now datagram took) h = sends_due s t h.2
+sends_due s (t ▷ Polled now None) h = sends_due s t h.2
+sends_due s (t ▷ Polled now (Some out)) h = ((λ o. by_sender o (sent_by s t now out h.0)), sends_due s t h.2)
   where
     by_sender : is_opening out ≡ true → (opening_due s t now ≡ Some out) ⊎ ByMachine s t out → opening_due s t now ≡ Some out
     by_sender o (inl is) = is
     by_sender o (inr m) = let flag = (opening_flag out o).0 in let none = m.plain in cc
-sends_due s (t ▷ Pulled room bytes) first h = sends_due s t first h.2
-sends_due s (t ▷ Owed count) first h = sends_due s t first h.2
-sends_due s (t ▷ Posted bytes) first h = sends_due s t first h.2
-sends_due s (t ▷ Next bytes) first h = sends_due s t first h.2
+sends_due s (t ▷ Pulled room bytes) h = sends_due s t h.2
+sends_due s (t ▷ Owed count) h = sends_due s t h.2
+sends_due s (t ▷ Posted bytes) h = sends_due s t h.2
+sends_due s (t ▷ Next bytes) h = sends_due s t h.2
 
 was_sent : (late : ℕ) (w : Trace Step) → Timely late w → WasSent w
 was_sent late Start h = tt
@@ -96,21 +116,13 @@ was_sent late (w ▷ At side (Owed count)) h = was_sent late w h
 was_sent late (w ▷ At side (Posted bytes)) h = was_sent late w h
 was_sent late (w ▷ At side (Next bytes)) h = was_sent late w h
 
-offered : {v : ℕ} → IsFirst v → IsOffered v
-offered (inl one) = inl one
-offered (inr two) = inr (inl two)
-
-not_third : {v : ℕ} → IsFirst v → v ≡ 0x0101 → ⊥
-not_third (inl one) is = omega (arith, one, is)
-not_third (inr two) is = omega (arith, two, is)
-
 meet : (late : ℕ) (settings : Role → OpenSettings) (w : Trace Step) → LinkNet late settings w → Meet settings w
 meet late settings w h = record {
   roles = h.roles;
-  versions = λ s. offered (h.versions s);
+  versions = h.versions;
   initials = h.initials;
-  hashes = λ s is. absurd (not_third (h.versions s) is);
-  sends = λ s. sends_due (settings s) (half s w) (h.versions s) (h.faithful s);
+  hashes = h.hashes;
+  sends = λ s. sends_due (settings s) (half s w) (h.faithful s);
   sent = was_sent late w h.timely;
 }
 
