@@ -1,5 +1,8 @@
--- Files that tell what they still give, as `std` says it of what reads and seeks.
-use Rattle.std.specs.Prelude.{◌≡◌, ℕ, ◌⊎◌, List, drop, Option, Some}
+-- Files and readers that tell what they still give, as `std` says it of what reads and seeks.
+use Rattle.std.specs.Prelude.{◌≡◌, ℕ, ◌⊎◌, List, take, drop, Option, Some}
+use Rattle.std.specs.Io.KnownBytes.{Consumes, IsAtEnd, Keeps}
+use Rattle.mt_outside.specs.declared.got.Got.{Got}
+use Rattle.mt_outside.specs.declared.got.Got.TheVariants as got
 
 -- what a file still gives are the bytes of this content from a place on
 abbrev pub StandsAt : Option (List ℕ) → List ℕ → ℕ → Type 0
@@ -23,3 +26,9 @@ pub record IsMovable {F : Type 0} (remaining : F → Option (List ℕ)) (positio
 abbrev pub Reaches : {F : Type 0} → (remaining : F → Option (List ℕ)) → (position : F → Option ℕ) → (bytes : F → Option (List ℕ)) → F → List ℕ → (from at : ℕ) → Type 0
 Reaches remaining position bytes f content from at =
     StandsAt (remaining f) content from × ((from ≡ at) ⊎ IsMovable remaining position bytes f content)
+
+-- what a read of a stream did to what its reader still gives, by its answer and the buffer it left
+abbrev pub Gave : (old new : Option (List ℕ)) → Got → List ℕ → Type 0
+Gave old new (got.Bytes n) out = Consumes old new (take n out)
+Gave old new got.Nothing out = Keeps old new
+Gave old new got.End out = Keeps old new × IsAtEnd new

@@ -2,6 +2,7 @@
 
 ghost use Rattle.std.specs.Prelude.{◌≡◌, ◌≤◌};
 ghost use Rattle.mt_outside.specs.Faults.{Rose};
+ghost use Rattle.mt_outside.specs.Told.{counted};
 
 use crate::failed::Failed;
 
@@ -26,4 +27,11 @@ impl Faults {
         self.count = self.count.saturating_add(1);
         Failed
     }
+}
+
+/// One more, up to the greatest value.
+pub(crate) fn one_more(count: u64) -> u64
+    ensures { result ≡ counted count }
+{
+    count.saturating_add(1)
 }

@@ -6,10 +6,10 @@ ghost use Rattle.mt_outside.specs.Told.{added};
 ghost use Rattle.mt_outside.specs.Files.{Holds, Lacks, Reads, emptied, replaced, grown, file_of};
 ghost use Rattle.mt_outside.specs.Memory.{Stored, fails_at};
 
+use crate::byte_strings::ByteStrings;
 use crate::failed::Failed;
 use crate::faults::Faults;
 use crate::files::FileStore;
-use crate::names::Names;
 use crate::plan::Plan;
 use crate::shelf::Shelf;
 use mt_base::NoMemory;
@@ -21,7 +21,7 @@ use std::marker::Model;
 #[derive(Drop)]
 pub struct MemoryFiles {
     shelf: Shelf,
-    names: Names,
+    names: ByteStrings,
     plan: Plan,
     faults: Faults,
 }
@@ -52,7 +52,7 @@ impl MemoryFiles {
     {
         MemoryFiles {
             shelf: Shelf::new(alloc),
-            names: Names::new(),
+            names: ByteStrings::new(),
             plan: Plan::new(fails),
             faults: Faults::new(),
         }
@@ -172,7 +172,7 @@ impl FileStore for MemoryFiles {
 }
 
 /// Copies as many bytes from place `at` on as there are and fit, and answers how many.
-fn copy_front(content: &[u8], at: u64, out: &mut [u8]) -> usize
+pub(crate) fn copy_front(content: &[u8], at: u64, out: &mut [u8]) -> usize
     ensures count { result ≡ min (length content.now - at) (length out.old) }
     ensures bytes { Reads content.now at result out.new }
 {

@@ -1,4 +1,4 @@
--- An empty body. The borrow is opened and closed with one more name. Assumes `Logic`.
+-- An empty body. The borrow is opened and closed with one more string. Assumes `Logic`.
 use Rattle.std.proofs.Common.{ℕ, List, [], ◌∷◌, ◌++◌, refl, MutBor}
 use seplogic.Ra.Ura.{Ura}
 use mir.Syntax.{named}
@@ -25,12 +25,12 @@ use denote.Triple.Entry.{on_entry}
 use denote.Triple.Spec.{Meets, triple_of}
 use denote.Triple.Table.{entered}
 use denote.Triple.Walked.{says, Stays, stay_ref, walk_of, AllGo, Goes-ref, Walks, ends_at, walked, walk_Meets}
-use Rattle.mt_outside.specs.declared.names.Names.{Names}
-use Rattle.mt_outside.specs.contracts.names.Names as T
-use Rattle.mt_outside.specs.contracts.names.Names.add.Key.{name as #it}
-use Rattle.mt_outside.specs.contracts.names.Names.add as it
-use Rattle.mt_outside.proofs.names.Names.add.Statement as stated
-use Rattle.mt_outside.proofs.names.Names.add.Code as code
+use Rattle.mt_outside.specs.declared.byte_strings.ByteStrings.{ByteStrings}
+use Rattle.mt_outside.specs.contracts.byte_strings.ByteStrings as T
+use Rattle.mt_outside.specs.contracts.byte_strings.ByteStrings.add.Key.{name as #it}
+use Rattle.mt_outside.specs.contracts.byte_strings.ByteStrings.add as it
+use Rattle.mt_outside.proofs.byte_strings.ByteStrings.add.Statement as stated
+use Rattle.mt_outside.proofs.byte_strings.ByteStrings.add.Code as code
 use denote.Ref.{Bor}
 use denote.Builtin.{u8}
 use denote.Exit.{yes}
@@ -39,18 +39,18 @@ use denote.Triple.Walked.{stay_none_slice, Goes-none_slice}
 use Rattle.std.proofs.Common.{◌<◌, ◌^◌, length}
 
 abbrev Arg : Type 0
-Arg = MutBor Names × (Bor (List ℕ) × Unit {0})
+Arg = MutBor ByteStrings × (Bor (List ℕ) × Unit {0})
 
 abbrev stayed : Stays (it.ended).signature.params (it.ended).kept
 stayed = (stay_ref (0 ∷ []) tt (plain (λ _. T.the_row)), (stay_none_slice (1 ∷ []) tt (plain (λ _. u8)) yes, tt))
 
-module _ {M : Type 1} {𝓤 : Ura M} (𝓛 : Logic 𝓤) (at_mem : Memory → SProp 𝓤) (run : Routine → Fun 𝓤) (κ κ' : Lft) (q q' : Share) (b o : ℕ) (γ : GName) (h : Names) (s : Bor (List ℕ)) where
+module _ {M : Type 1} {𝓤 : Ura M} (𝓛 : Logic 𝓤) (at_mem : Memory → SProp 𝓤) (run : Routine → Fun 𝓤) (κ κ' : Lft) (q q' : Share) (b o : ℕ) (γ : GName) (h : ByteStrings) (s : Bor (List ℕ)) where
   open 𝓛 use {H, A}
 
   abbrev x : Arg
   x = (record { ref_ptr = (b, o); ghost_name = γ; now = h }, (s, tt))
 
-  abbrev h' : Names
+  abbrev h' : ByteStrings
   h' = record { list = h.list ++ s.now ∷ [] }
 
   abbrev at : List Val × (List Val × Unit {0})

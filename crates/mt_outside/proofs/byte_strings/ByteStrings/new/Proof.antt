@@ -1,4 +1,4 @@
--- `new` picks no names. Assumes `Logic`.
+-- `new` makes a value of no bytes, with no strings. Assumes `Logic`.
 use Rattle.std.proofs.Common.{[], ◌∷◌, refl}
 use seplogic.Ra.Ura.{Ura}
 use mir.Syntax.{Fn}
@@ -24,11 +24,11 @@ use denote.Triple.Spec.{Meets, triple_of}
 use denote.Triple.Table.{entered}
 use denote.Triple.Walked.{says, Stays, walk_of, ends_at, walk_Meets}
 use Rattle.mt_outside.proofs.Walks.{none, none_made}
-use Rattle.mt_outside.specs.contracts.names.Names as Names
-use Rattle.mt_outside.specs.contracts.names.Names.new as F
-use Rattle.mt_outside.specs.contracts.names.Names.new.Key.{name as #self}
-use Rattle.mt_outside.proofs.names.Names.new.Statement as stated
-use Rattle.mt_outside.proofs.names.Names.new.Code as code
+use Rattle.mt_outside.specs.contracts.byte_strings.ByteStrings as ByteStrings
+use Rattle.mt_outside.specs.contracts.byte_strings.ByteStrings.new as F
+use Rattle.mt_outside.specs.contracts.byte_strings.ByteStrings.new.Key.{name as #self}
+use Rattle.mt_outside.proofs.byte_strings.ByteStrings.new.Statement as stated
+use Rattle.mt_outside.proofs.byte_strings.ByteStrings.new.Code as code
 
 abbrev function : Fn
 function = code.function
@@ -56,7 +56,7 @@ module _ {M : Type 1} {𝓤 : Ura M} (𝓛 : Logic 𝓤) (at_mem : Memory → SP
     walks =
         let a = z.0.3 in
         let vss = z.0.4 in
-        let made : (Names.the_row).Denot = record { list = [] } in
+        let made : (ByteStrings.the_row).Denot = record { list = [] } in
         qed 𝓛 ((raw toks ⊛ ‵ (owns (types_at ended.signature.params z.0.0) a vss)) ∷ raw ((held z.0.0 a).requires z.1) ∷ []) ∵
         keep ! (0 ∷ []) $ split ! $ move ! (1 ∷ []) $ drop ! $
         enter ! C Λ function [] Post $ alloc_all ! (λ l. pass_all ! refl tt $
