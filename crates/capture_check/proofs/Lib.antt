@@ -2,6 +2,12 @@ pub mod EntryLines
 pub mod CaptureLines
 pub mod ReadBack
 pub mod OneAnswer
+pub mod Stepping
 pub mod Places
 pub mod Judging
 pub mod OneJudgement
+pub mod Passing
+pub mod Openings
+pub mod Following
+pub mod Flowing
+pub mod Delivering

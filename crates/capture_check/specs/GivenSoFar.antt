@@ -6,7 +6,7 @@ use Rattle.mt_base.specs.declared.kinds.Kind.{Kind}
 use Rattle.mt_base.specs.declared.kinds.Kind.TheVariants.{Reliable, Lossy}
 use Rattle.capture_check.specs.declared.entry.Entry.{Entry}
 use Rattle.capture_check.specs.declared.entry.Entry.TheVariants.{Out, In}
-use Rattle.capture_check.specs.Rules.{late}
+use Rattle.capture_check.specs.Numbers.{late}
 
 -- For each datagram of a side and kind, in order of their numbers, how many datagrams of the kind,
 -- of both sides, were given before it.

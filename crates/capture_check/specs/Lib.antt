@@ -1,5 +1,12 @@
 pub mod Spelling
 pub mod Meaning
 pub mod Reading
+pub mod Numbers
+pub mod Layouts
+pub mod LayoutsSoFar
+pub mod Messages
+pub mod Flows
+pub mod FlowsSoFar
 pub mod Rules
+pub mod Passes
 pub mod GivenSoFar

@@ -1,84 +1,64 @@
--- The rules of a capture that speak of the numbers of datagrams, and what breaks them. Each is
--- judged at an entry, from it and the entries before it.
-use Rattle.std.specs.Prelude.{◌≡◌, ℕ, ◌+◌, ◌<◌, ◌&&◌, Bool, true, false, List, ◌∷◌, ◌++◌, length}
-use Rattle.std.specs.List.{count_by}
-use Rattle.mt_base.specs.declared.kinds.Role.{Role}
-use Rattle.mt_base.specs.declared.kinds.Kind.{Kind}
-use Rattle.mt_base.specs.Ends.{same_kind, same_role}
+-- The rules of a capture, by their numbers, and what a capture is judged to be by the first of them.
+use Rattle.std.specs.Prelude.{◌≡◌, ℕ, ◌+◌, ◌<◌, ◌≤◌, List, ◌∷◌, ◌++◌, length}
 use Rattle.capture_check.specs.declared.entry.Entry.{Entry}
-use Rattle.capture_check.specs.declared.entry.Entry.TheVariants.{Out, In}
 use Rattle.capture_check.specs.declared.judgement.Judgement.{Judgement}
 use Rattle.capture_check.specs.declared.judgement.Judgement.TheVariants.{Holds, Breaks}
+use Rattle.capture_check.specs.Numbers.{CountsUp, NamesOut, IsTimely}
+use Rattle.capture_check.specs.Layouts.{IsReadable}
+use Rattle.capture_check.specs.Messages.{WasSent}
 
--- an entry is an `out` of this kind, of either side
-abbrev pub is_out : Kind → Entry → Bool
-is_out kind (Out s k number datagram) = same_kind kind k
-is_out kind other = false
+-- the rules, by what they speak of
+pub data Rule : Type 0 where
+  Numbering : Rule
+  Naming : Rule
+  Lateness : Rule
+  Layouts : Rule
+  Messages : Rule
 
--- an entry is an `out` of this side and kind
-abbrev pub is_out_of : Role → Kind → Entry → Bool
-is_out_of side kind (Out s k number datagram) = same_role side s && same_kind kind k
-is_out_of side kind other = false
+abbrev pub number_of : Rule → ℕ
+number_of Numbering = 1
+number_of Naming = 2
+number_of Lateness = 3
+number_of Layouts = 4
+number_of Messages = 5
 
--- an `out` of this side, kind and number stands among entries: those before it, and those behind it
-pub record HasOut (side : Role) (kind : Kind) (number : ℕ) (entries : List Entry) : Type 0 where
-  pub front : List Entry
-  pub datagram : List ℕ
-  pub back : List Entry
-  pub parts : entries ≡ front ++ Out side kind number datagram ∷ back
+-- what a rule asks of an entry, from it and the entries before it
+abbrev pub Asks : Rule → List Entry → Entry → Type 0
+Asks Numbering before entry = CountsUp before entry
+Asks Naming before entry = NamesOut before entry
+Asks Lateness before entry = IsTimely before entry
+Asks Layouts before entry = IsReadable before entry
+Asks Messages before entry = WasSent before entry
 
--- a datagram is late where so many others were given on its link, by both sides, after it and before
--- it arrived
-abbrev pub late : ℕ
-late = 1024
-
--- Rule 1: the numbers of a side's `out` entries of a kind are 0, 1, 2 and so on.
-abbrev pub CountsUp : List Entry → Entry → Type 0
-CountsUp before (Out side kind number datagram) = number ≡ count_by (is_out_of side kind) before
-CountsUp before other = Unit {0}
-
--- Rule 2: an `in` names an earlier `out`.
-abbrev pub NamesOut : List Entry → Entry → Type 0
-NamesOut before (In side kind number) = HasOut side kind number before
-NamesOut before other = Unit {0}
-
--- Rule 3: fewer `out` entries of its kind than make a datagram late stand between an `in` and the
--- `out` that it names.
-abbrev pub IsTimely : List Entry → Entry → Type 0
-IsTimely before (In side kind number) =
-    (given : HasOut side kind number before) → count_by (is_out kind) given.back < late
-IsTimely before other = Unit {0}
-
--- an entry keeps the three rules
-pub record KeepsNumbers (before : List Entry) (entry : Entry) : Type 0 where
-  pub counts : CountsUp before entry
-  pub names : NamesOut before entry
-  pub timely : IsTimely before entry
+-- an entry keeps the rules up to this number
+abbrev pub Keeps : ℕ → List Entry → Entry → Type 0
+Keeps most before entry = (rule : Rule) → number_of rule ≤ most → Asks rule before entry
 
 -- each entry does
-abbrev pub NumbersHold : List Entry → Type 0
-NumbersHold entries =
+abbrev pub Hold : ℕ → List Entry → Type 0
+Hold most entries =
     (before : List Entry) (entry : Entry) (after : List Entry)
-    → entries ≡ before ++ entry ∷ after → KeepsNumbers before entry
+    → entries ≡ before ++ entry ∷ after → Keeps most before entry
 
--- the least of the three rules that an entry breaks
-pub data BreaksRule (before : List Entry) (entry : Entry) (rule : ℕ) : Type 0 where
-  first : rule ≡ 1 → ¬ CountsUp before entry → BreaksRule before entry rule
-  second : rule ≡ 2 → CountsUp before entry → ¬ NamesOut before entry → BreaksRule before entry rule
-  third : rule ≡ 3 → CountsUp before entry → NamesOut before entry → ¬ IsTimely before entry
-      → BreaksRule before entry rule
+-- the least of the rules up to this number that an entry breaks
+pub record BreaksRule (most : ℕ) (before : List Entry) (entry : Entry) (number : ℕ) : Type 0 where
+  pub rule : Rule
+  pub number_is : number ≡ number_of rule
+  pub within : number_of rule ≤ most
+  pub broken : ¬ Asks rule before entry
+  pub least : (lower : Rule) → number_of lower < number_of rule → Asks lower before entry
 
 -- the first entry that breaks a rule stands in this line, counted from 1, and breaks this one
-pub record FirstBreak (entries : List Entry) (line rule : ℕ) : Type 0 where
+pub record FirstBreak (most : ℕ) (entries : List Entry) (line number : ℕ) : Type 0 where
   pub before : List Entry
   pub entry : Entry
   pub after : List Entry
   pub parts : entries ≡ before ++ entry ∷ after
-  pub kept : NumbersHold before
-  pub broken : BreaksRule before entry rule
+  pub kept : Hold most before
+  pub breaks : BreaksRule most before entry number
   pub line_is : line ≡ length before + 1
 
--- what a capture is judged to be by the three rules
-abbrev pub JudgedByNumbers : List Entry → Judgement → Type 0
-JudgedByNumbers entries Holds = NumbersHold entries
-JudgedByNumbers entries (Breaks line rule) = FirstBreak entries line rule
+-- what a capture is judged to be by the rules up to this number
+abbrev pub Judged : ℕ → List Entry → Judgement → Type 0
+Judged most entries Holds = Hold most entries
+Judged most entries (Breaks line number) = FirstBreak most entries line number

@@ -9,7 +9,7 @@ ghost use Rattle.mt_script.specs.Meaning.{line_limit};
 ghost use Rattle.mt_script.specs.Spelling.{IsBytes};
 ghost use Rattle.capture_check.specs.Spelling.{IsEntry, spelled};
 ghost use Rattle.capture_check.specs.Meaning.{ReadsAs};
-ghost use Rattle.capture_check.specs.Rules.{JudgedByNumbers};
+ghost use Rattle.capture_check.specs.Rules.{Judged};
 
 /// Each entry has one spelling, which no other entry has and which is a line.
 pub fn one_spelling()
@@ -30,10 +30,11 @@ pub fn one_answer()
         → ReadsAs (ended (map spelled entries)) (Ok entries) }
 {}
 
-/// The rules of numbers judge each list of entries in exactly one way.
+/// The rules up to a number judge each list of entries in at most one way, and those of numbers in
+/// exactly one.
 pub fn one_judgement()
     ensures some { (entries : List Entry)
-        → (judgement : Judgement) × JudgedByNumbers entries judgement }
-    ensures one { (entries : List Entry) (a b : Judgement)
-        → JudgedByNumbers entries a → JudgedByNumbers entries b → a ≡ b }
+        → (judgement : Judgement) × Judged 3 entries judgement }
+    ensures one { (most : ℕ) (entries : List Entry) (a b : Judgement)
+        → Judged most entries a → Judged most entries b → a ≡ b }
 {}

@@ -1,26 +1,37 @@
-//! Captures: what happened in a session, one line for each thing, and the reading of a whole
-//! capture.
+//! Captures: what happened in a session, one line for each thing; the reading of a whole capture,
+//! and its judgement by rules.
 //!
-//! A capture is a text of lines. Each line is one entry, and an entry has exactly one spelling.
-//! Below it stand `mt_base` and `mt_script`, which cuts the lines and takes their words. What the
-//! crates above use is the relation between a text and the entries that its lines spell, `ReadsAs`,
-//! that [`read_capture`] gives exactly those, and that each text has exactly one such answer.
+//! A capture is a text of lines. Each line is one entry, and an entry has exactly one spelling. Each
+//! rule asks something of an entry, from it and the entries before it. Below this crate stand
+//! `mt_base`, `mt_script`, which cuts the lines and takes their words, and the readers of datagrams
+//! in `udp1_packets` and `udp2_packets`. What the crates above use is the relation between a text
+//! and the entries that its lines spell, `ReadsAs`, that [`read_capture`] gives exactly those, and
+//! what a capture is judged to be by the rules up to a number, `Judged`, which [`check_numbers`],
+//! [`check_datagrams`] and [`check_messages`] answer: the first line that breaks one of these rules,
+//! and the least rule that it breaks. Each of the last two makes a pass of its own over the lines
+//! that the passes before it found unbroken.
 #![tactic(auto)]
 
+mod agreed;
 mod capture;
+mod datagrams;
+mod deliveries;
 mod entry;
 mod first;
+mod flow;
+mod flows;
 mod given;
 mod judgement;
 mod laws;
+mod layout;
 mod line;
+mod messages;
 mod numbers;
 
 pub use capture::{Capture, read_capture};
+pub use datagrams::check_datagrams;
 pub use entry::{CaptureRefusal, Entry};
 pub use judgement::Judgement;
 pub use laws::{one_answer, one_judgement, one_spelling};
+pub use messages::check_messages;
 pub use numbers::check_numbers;
-
-#[cfg(test)]
-mod tests;

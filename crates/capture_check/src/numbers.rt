@@ -1,7 +1,7 @@
 //! The rules of a capture that speak of the numbers of datagrams.
 
 ghost use Rattle.std.specs.Prelude.{IfOk};
-ghost use Rattle.capture_check.specs.Rules.{JudgedByNumbers};
+ghost use Rattle.capture_check.specs.Rules.{Judged};
 
 use crate::capture::Capture;
 use crate::given::GivenOuts;
@@ -17,7 +17,7 @@ use std::alloc::Global;
 ///
 /// The first line that breaks one is told, and the least rule that it breaks.
 pub fn check_numbers(alloc: Global, capture: &Capture) -> Result<Judgement, NoMemory>
-    ensures { IfOk result (JudgedByNumbers capture.now) }
+    ensures { IfOk result (Judged 3 capture.now) }
 {
     let mut given = GivenOuts::new(alloc);
     let mut line = 0;
