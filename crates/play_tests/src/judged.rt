@@ -1,0 +1,186 @@
+use capture_check::{Judgement, check_datagrams, check_messages, check_numbers, read_capture};
+use std::test::*;
+
+/// A SYN (MS-RDPEUDP section 2.2) without an extension.
+const SYN: &str = "ffffffff004000010000000104d004d0";
+
+/// A SYN+ACK without an extension.
+const ANSWER: &str = "00000001004000050000000104d004d0";
+
+/// A SYN+ACK whose extension names version 0x0101 as valid.
+const ANSWER_3: &str = "00000001004010050000000104d004d000010101";
+
+/// The same with the version not said to be valid.
+const ANSWER_NOT_VALID: &str = "00000001004010050000000104d004d000000101";
+
+/// An acknowledgement of the first layout.
+const FIRST: &str = "000000010040000400010000";
+
+/// Data of the second layout (MS-RDPEUDP2 section 2.2): transmission 1, part 1.
+const SECOND: &str = "41046001000100e042";
+
+/// What the rules of numbers say of a capture.
+fn judged(rt: HostRuntime, text: &[u8]) -> Result<Judgement, Fail> {
+    let capture = read_capture(rt.alloc(), text)?;
+    let judgement = check_numbers(rt.alloc(), &capture)?;
+    Ok(judgement)
+}
+
+#[test]
+fn an_empty_capture_holds(rt: HostRuntime) -> Result<(), Fail> {
+    assert_eq!(rt; judged(rt, b"")?, Judgement::Holds);
+    Ok(())
+}
+
+#[test]
+fn numbers_count_up_by_side_and_kind(rt: HostRuntime) -> Result<(), Fail> {
+    let text =
+        b"out server lossy 0 -\nout client lossy 0 -\nout server lossy 1 -\nin server lossy 1";
+    assert_eq!(rt; judged(rt, text)?, Judgement::Holds);
+    Ok(())
+}
+
+#[test]
+fn the_first_broken_line_is_told(rt: HostRuntime) -> Result<(), Fail> {
+    let rows: [(&[u8], u64, u8); 4] = [
+        (b"in server reliable 0\nout server reliable 0 -", 1, 2),
+        (b"out client reliable 1 -", 1, 1),
+        (b"out server lossy 0 -\nin server reliable 0", 2, 2),
+        (
+            b"out server lossy 0 -\nin client lossy 0\nout server lossy 0 -",
+            2,
+            2,
+        ),
+    ];
+    for (text, line, rule) in rows {
+        assert_eq!(rt; judged(rt, text)?, Judgement::Breaks { line, rule });
+    }
+    Ok(())
+}
+
+/// A datagram of the server, this many of the client, and the arrival of the server's.
+fn arrival_after(rt: HostRuntime, others: u64) -> Result<Judgement, Fail> {
+    let mut text = String::from_str(rt.alloc(), "out server lossy 0 -\n")?;
+    for number in 0..others {
+        text.push_str(&format!(in rt.alloc(); "out client lossy {number} -\n")?)?;
+    }
+    text.push_str("in server lossy 0\n")?;
+    judged(rt, text.as_bytes())
+}
+
+#[test]
+fn a_datagram_may_be_passed_by_1023_others(rt: HostRuntime) -> Result<(), Fail> {
+    assert_eq!(rt; arrival_after(rt, 1023)?, Judgement::Holds);
+    Ok(())
+}
+
+#[test]
+fn a_datagram_that_1024_others_passed_is_late(rt: HostRuntime) -> Result<(), Fail> {
+    let late = Judgement::Breaks {
+        line: 1026,
+        rule: 3,
+    };
+    assert_eq!(rt; arrival_after(rt, 1024)?, late);
+    Ok(())
+}
+
+/// What the rules up to that of layouts say of a server's datagrams on one link, in order.
+fn given(rt: HostRuntime, datagrams: &[&str]) -> Result<Judgement, Fail> {
+    let mut text = String::new(rt.alloc());
+    let mut number = 0u64;
+    for datagram in datagrams {
+        text.push_str(&format!(in rt.alloc(); "out server lossy {number} {datagram}\n")?)?;
+        number = number.wrapping_add(1);
+    }
+    let capture = read_capture(rt.alloc(), text.as_bytes())?;
+    let judgement = check_datagrams(rt.alloc(), &capture)?;
+    Ok(judgement)
+}
+
+#[test]
+fn datagrams_have_the_layout_of_the_last_answer(rt: HostRuntime) -> Result<(), Fail> {
+    let rows: [&[&str]; 4] = [
+        &[SYN, ANSWER, FIRST, SYN],
+        &[ANSWER_NOT_VALID, FIRST],
+        &[ANSWER_3, SECOND, SYN],
+        &[ANSWER, FIRST, ANSWER_3, SECOND],
+    ];
+    for datagrams in rows {
+        assert_eq!(rt; given(rt, datagrams)?, Judgement::Holds);
+    }
+    Ok(())
+}
+
+#[test]
+fn a_datagram_of_another_layout_breaks_rule_4(rt: HostRuntime) -> Result<(), Fail> {
+    let rows: [(&[&str], u64); 5] = [
+        (&[FIRST], 1),
+        (&[SYN, SECOND], 2),
+        (&[ANSWER_3, FIRST], 2),
+        (&[ANSWER, FIRST, ANSWER_3, FIRST], 4),
+        (&[ANSWER, "-"], 2),
+    ];
+    for (datagrams, line) in rows {
+        assert_eq!(rt; given(rt, datagrams)?, Judgement::Breaks { line, rule: 4 });
+    }
+    Ok(())
+}
+
+/// What the rules up to that of messages say of a capture.
+fn heard(rt: HostRuntime, text: &[u8]) -> Result<Judgement, Fail> {
+    let capture = read_capture(rt.alloc(), text)?;
+    let judgement = check_messages(rt.alloc(), &capture)?;
+    Ok(judgement)
+}
+
+#[test]
+fn messages_come_as_they_were_sent(rt: HostRuntime) -> Result<(), Fail> {
+    let rows: [&[u8]; 3] = [
+        b"sent server 1 61\nsent server 1 62\ngot client 1 61\ngot client 1 62",
+        b"sent server 1 61\nsent client 1 62\nsent server 2 -\ngot client 2 -\ngot server 1 62",
+        b"sent server 1 61\nsent server 1 62\nword server lossy 1\ngot client 1 62",
+    ];
+    for text in rows {
+        assert_eq!(rt; heard(rt, text)?, Judgement::Holds);
+    }
+    Ok(())
+}
+
+#[test]
+fn another_message_breaks_rule_5(rt: HostRuntime) -> Result<(), Fail> {
+    let rows: [(&[u8], u64); 6] = [
+        (b"got client 1 61\nsent server 1 61", 1),
+        (b"sent server 1 61\ngot server 1 61", 2),
+        (b"sent server 1 61\nsent server 1 62\ngot client 1 62", 3),
+        (b"sent server 1 61\ngot client 1 61\ngot client 1 61", 3),
+        (
+            b"sent server 1 61\nsent server 1 62\nword server reliable 1\nword client lossy 1\ngot client 1 62",
+            5,
+        ),
+        (
+            b"word server lossy 1\nsent server 1 61\nsent server 1 62\ngot client 1 62\ngot client 1 61",
+            5,
+        ),
+    ];
+    for (text, line) in rows {
+        assert_eq!(rt; heard(rt, text)?, Judgement::Breaks { line, rule: 5 });
+    }
+    Ok(())
+}
+
+#[test]
+fn the_first_line_comes_before_the_least_rule(rt: HostRuntime) -> Result<(), Fail> {
+    let rows: [(&[u8], u64, u8); 3] = [
+        (b"out client reliable 1 -", 1, 1),
+        (b"got client 1 61\nout client reliable 1 -", 1, 5),
+        (
+            b"out client reliable 0 -\nin server reliable 0\ngot client 1 61",
+            1,
+            4,
+        ),
+    ];
+    for (text, line, rule) in rows {
+        assert_eq!(rt; heard(rt, text)?, Judgement::Breaks { line, rule });
+    }
+    Ok(())
+}
