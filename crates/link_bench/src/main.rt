@@ -1,19 +1,21 @@
-//! The program that `bench/core` measures: bytes go from one end of a reliable link of the first
-//! layout (MS-RDPEUDP) to the other, both in this process, with a clock of its own and no socket; or
-//! they are copied, for comparison.
+//! The program that `bench/core` measures: bytes go from one end of a reliable link to the other, in
+//! either layout (MS-RDPEUDP, MS-RDPEUDP2), both ends in this process, with a clock of its own and no
+//! socket; or they are copied, for comparison.
 //!
-//! `link_bench core BYTES LOST` lets so many bytes cross and loses each datagram whose number can be
-//! divided by `LOST`, none where it is 0. `link_bench copy BYTES TIMES` copies as many bytes `TIMES`
-//! times. Both print `BYTES bytes arrived` where the bytes that came are those that were sent, in
-//! order.
+//! `link_bench first BYTES LOST` lets so many bytes cross a link of version 2, whose datagrams have
+//! the first layout, and loses each datagram whose number can be divided by `LOST`, none where it is
+//! 0. `link_bench second BYTES LOST` does the same with the second layout, of version 0x0101.
+//! `link_bench copy BYTES TIMES` copies as many bytes `TIMES` times. All print `BYTES bytes arrived`
+//! where the bytes that came are those that were sent, in order.
 //!
 //! Below it stand `carrier` with what a link is, `link_net` with the earlier of two moments,
-//! `udp1_core` with the link, and `mt_outside` with the device that it prints on. The contract of
+//! `link_core` with the link, and `mt_outside` with the device that it prints on. The contract of
 //! [`cross`](crossing::cross) is proved for every kind of link: where it is `Ok`, the near end was
 //! given just these bytes and the far end pulled just them.
 #![tactic(auto)]
 
 ghost use Rattle.std.specs.Prelude.{◌≡◌, length, IfOk};
+ghost use Rattle.link_core.specs.CoreView.{IsVersion};
 
 mod copying;
 mod crossing;
@@ -24,15 +26,12 @@ mod words;
 use copying::copy;
 use crossing::cross;
 use fault::Fault;
+use link_core::LinkCore;
 use mt_outside::{Failed, RealSink, Sink, write_all};
 use std::alloc::Global;
 use std::process::ExitCode;
 use std::{env, io};
-use udp1_core::Udp1Core;
-use words::{Run, read_words};
-
-/// The version of the link.
-const VERSION_2: u16 = 0x0002;
+use words::{Layout, Run, read_words};
 
 /// The words after the program's name. Words that are no text are none: no run has such words.
 fn call_words(rt: &HostRuntime) -> io::Result<Vec<String>> {
@@ -58,13 +57,24 @@ fn pattern(alloc: Global, count: usize) -> Result<Vec<u8>, Fault>
     Ok(bytes)
 }
 
-/// Lets so many bytes cross a link.
-fn run_core(alloc: Global, count: usize, lost: u64) -> Result<(), Fault> {
+/// The version of the links of this layout.
+fn version_of(layout: Layout) -> u16
+    ensures { IsVersion result }
+{
+    match layout {
+        Layout::First => 0x0002,
+        Layout::Second => 0x0101,
+    }
+}
+
+/// Lets so many bytes cross a link of this layout.
+fn run_cross(alloc: Global, layout: Layout, count: usize, lost: u64) -> Result<(), Fault> {
     let bytes = pattern(alloc, count)?;
-    let Ok(mut near) = Udp1Core::new(alloc, 1, 1, VERSION_2) else {
+    let version = version_of(layout);
+    let Ok(mut near) = LinkCore::new(alloc, 1, 1, version) else {
         return Err(Fault::NoMemory);
     };
-    let Ok(mut far) = Udp1Core::new(alloc, 1, 1, VERSION_2) else {
+    let Ok(mut far) = LinkCore::new(alloc, 1, 1, version) else {
         return Err(Fault::NoMemory);
     };
     cross(&mut near, &mut far, &bytes, lost)
@@ -82,8 +92,14 @@ fn run_copy(alloc: Global, count: usize, times: u64) -> Result<(), Fault> {
 /// Runs what the words ask for, and gives how many bytes arrived.
 fn run(alloc: Global, words: &Vec<String>) -> Result<usize, Fault> {
     match read_words(words) {
-        Some(Run::Core { bytes, lost }) => {
-            run_core(alloc, bytes, lost)?;
+        Some(
+            Run::Cross {
+                layout,
+                bytes,
+                lost,
+            },
+        ) => {
+            run_cross(alloc, layout, bytes, lost)?;
             Ok(bytes)
         }
         Some(Run::Copy { bytes, times }) => {
@@ -103,7 +119,7 @@ fn tell<K: Sink>(alloc: Global, out: &mut K, ended: Result<usize, Fault>) -> u8 
         },
         Err(Fault::Usage) => print(
             out,
-            b"usage: link_bench core BYTES LOST | copy BYTES TIMES\n",
+            b"usage: link_bench first BYTES LOST | second BYTES LOST | copy BYTES TIMES\n",
             1,
         ),
         Err(Fault::Wrong) => print(out, b"other bytes arrived\n", 2),

@@ -13,11 +13,12 @@ fn call(alloc: Global, words: &[&str]) -> Result<Result<usize, Fault>, NoMemory>
 
 #[test]
 fn bytes_arrive(rt: HostRuntime) -> Result<(), Fail> {
-    let rows: [(&[&str], usize); 5] = [
-        (&["core", "0", "0"], 0),
-        (&["core", "1", "50"], 1),
-        (&["core", "200500", "0"], 200_500),
-        (&["core", "200500", "5"], 200_500),
+    let rows: [(&[&str], usize); 6] = [
+        (&["first", "0", "0"], 0),
+        (&["first", "200500", "0"], 200_500),
+        (&["first", "200500", "5"], 200_500),
+        (&["second", "200500", "0"], 200_500),
+        (&["second", "200500", "5"], 200_500),
         (&["copy", "2500", "1"], 2_500),
     ];
     for (words, count) in rows {
@@ -28,7 +29,7 @@ fn bytes_arrive(rt: HostRuntime) -> Result<(), Fail> {
 
 #[test]
 fn nothing_arrives_where_all_is_lost(rt: HostRuntime) -> Result<(), Fail> {
-    let ended = call(rt.alloc(), &["core", "1", "1"])?;
+    let ended = call(rt.alloc(), &["second", "1", "1"])?;
     assert!(rt; matches!(ended, Err(Fault::GaveUp)));
     let ended = call(rt.alloc(), &["copy", "2500", "0"])?;
     assert!(rt; matches!(ended, Err(Fault::Wrong)));
@@ -39,9 +40,9 @@ fn nothing_arrives_where_all_is_lost(rt: HostRuntime) -> Result<(), Fail> {
 fn knows_its_words(rt: HostRuntime) -> Result<(), Fail> {
     let rows: [&[&str]; 5] = [
         &[],
-        &["core"],
-        &["core", "1"],
-        &["core", "x", "0"],
+        &["first"],
+        &["first", "1"],
+        &["second", "x", "0"],
         &["send", "1", "0"],
     ];
     for words in rows {
