@@ -1,7 +1,6 @@
 -- A server that creates a channel stands for one act more.
-use Rattle.std.proofs.Common.{◌≡◌, ℕ, ◌+◌, ◌≤◌, Bool, true, false, cond, not, ◌||◌, nat_eq, nat_lt, List, [], ◌∷◌, ◌++◌, length, length-append, Option, Some, None, is_some, Result, Ok, Err, OnOk, is_err, refl, sym, ap, subst, ◌∙◌, arith, eqb, eqb-true}
-use Rattle.std.specs.Option.{option_or, unwrap_or}
-use Rattle.std.specs.Map.{keys_of, lookup, set_value}
+use Rattle.std.proofs.Common.{◌≡◌, ℕ, ◌+◌, ◌≤◌, Bool, true, false, cond, not, nat_lt, List, [], ◌++◌, length, length-append, Option, Some, None, Result, Ok, Err, OnOk, is_err, refl, sym, ap, subst, ◌∙◌, arith, eqb}
+use Rattle.std.specs.Option.{option_or}
 use Rattle.std.proofs.lemmas.Bool.{ltb-false}
 use Rattle.mt_base.specs.declared.kinds.Kind.{Kind}
 use Rattle.mt_base.specs.declared.kinds.Role.{Role}
@@ -21,7 +20,7 @@ use Rattle.mt_endpoint.specs.Alone.{EndOfActs}
 use Rattle.mt_endpoint.specs.Channels.{is_known_in, is_open_in, is_ready, table}
 use Rattle.mt_endpoint.specs.Orders.{is_among}
 use Rattle.mt_endpoint.proofs.Creating.{counted, fresh, rooted}
-use Rattle.mt_endpoint.proofs.Distinct.{most_channels, other_way}
+use Rattle.mt_endpoint.proofs.Distinct.{most_channels}
 use Rattle.end_calls.specs.declared.fault.Fault.{Fault}
 use Rattle.end_calls.specs.declared.refusal.OpenRefusal.TheVariants as opening
 use Rattle.end_calls.specs.declared.refusal.OpenRefusal.{OpenRefusal}
@@ -34,6 +33,7 @@ use Rattle.end_session.specs.Store.{Store}
 use Rattle.end_session.proofs.Naming.{named, none_first, none_later, not_when}
 use Rattle.end_session.proofs.Putting.{spoke}
 use Rattle.end_session.proofs.Still.{IsStill, TellsNothing, knows_still}
+use Rattle.end_session.proofs.ToldOf.{Says, told_new}
 
 -- ---- what it says of tunnels and words
 
@@ -50,39 +50,14 @@ still t id name = record {
 
 -- ---- the channels that are told of
 
-none_at : (id : ℕ) (es : List (ℕ × Bool)) → is_among id (keys_of es) ≡ false → lookup (nat_eq id) es ≡ None
-none_at id [] h = refl
-none_at id ((k, b) ∷ es) h = by_test (eqb k id) refl h (none_at id es) where
-  by_test : (c : Bool) → eqb k id ≡ c → c || is_among id (keys_of es) ≡ false → (is_among id (keys_of es) ≡ false → lookup (nat_eq id) es ≡ None) → cond (eqb id k) (Some b) (lookup (nat_eq id) es) ≡ None
-  by_test true e r deeper = absurd (let never : true ≡ false = r in cc)
-  by_test false e r deeper = ap (λ c. cond c (Some b) (lookup (nat_eq id) es)) (other_way k id e) ∙ deeper r
-
-last_closed : (x id : ℕ) (es : List (ℕ × Bool)) → unwrap_or (lookup (nat_eq x) (es ++ (id, false) ∷ [])) false ≡ unwrap_or (lookup (nat_eq x) es) false
-last_closed x id [] = by_test (eqb x id) where
-  by_test : (c : Bool) → unwrap_or (cond c (Some false) None) false ≡ false
+created_says : (t : Trace Act) (id : ℕ) (name : List ℕ) → Says Server t (Opens id name) id false
+created_says t id name x = by_test (eqb id x) where
+  by_test : (b : Bool) → is_open_in (cond b state.Asked (change.state (table Server t) x)) ≡ cond b false (is_open_in (change.state (table Server t) x))
   by_test true = refl
   by_test false = refl
-last_closed x id ((k, b) ∷ es) = by_test (eqb x k) (last_closed x id es) where
-  by_test : (c : Bool) → unwrap_or (lookup (nat_eq x) (es ++ (id, false) ∷ [])) false ≡ unwrap_or (lookup (nat_eq x) es) false
-      → unwrap_or (cond c (Some b) (lookup (nat_eq x) (es ++ (id, false) ∷ []))) false ≡ unwrap_or (cond c (Some b) (lookup (nat_eq x) es)) false
-  by_test true deeper = refl
-  by_test false deeper = deeper
-
-keys_last : (id : ℕ) (es : List (ℕ × Bool)) → keys_of (es ++ (id, false) ∷ []) ≡ keys_of es ++ id ∷ []
-keys_last id [] = refl
-keys_last id (e ∷ es) = ap (λ ks. e.0 ∷ ks) (keys_last id es)
 
 opened_told : (t : Trace Act) (id : ℕ) (name : List ℕ) (es : List (ℕ × Bool)) → AreTold Server t es → is_among id (change.ids (table Server t)) ≡ false → AreTold Server (t ▷ Opens id name) (told id false es)
-opened_told t id name es a new =
-    let none = none_at id es (ap (is_among id) a.ids_are ∙ new) in
-    let is : told id false es ≡ es ++ (id, false) ∷ [] = ap (λ o. cond (is_some o) (set_value (nat_eq id) es false) (es ++ (id, false) ∷ [])) none in record {
-      ids_are = ap keys_of is ∙ keys_last id es ∙ ap (λ ks. ks ++ id ∷ []) a.ids_are;
-      open_are = λ x. ap (λ l. unwrap_or (lookup (nat_eq x) l) false) is ∙ last_closed x id es ∙ by_test x none (eqb id x) refl;
-    }
-  where
-    by_test : (x : ℕ) → lookup (nat_eq id) es ≡ None → (b : Bool) → eqb id x ≡ b → unwrap_or (lookup (nat_eq x) es) false ≡ is_open_in (cond b state.Asked (change.state (table Server t) x))
-    by_test x none true e = ap (λ y. unwrap_or (lookup (nat_eq y) es) false) (sym (eqb-true id x e)) ∙ ap (λ o. unwrap_or o false) none
-    by_test x none false e = a.open_are x
+opened_told t id name es a new = told_new Server t (Opens id name) id false es a new refl (created_says t id name)
 
 -- ---- a channel may be created
 
@@ -187,7 +162,7 @@ is_cause opening.NoMemory cause h no_memory = absurd (no_memory refl)
 some_same : (a b : ℕ) → Some a ≡ Some b → a ≡ b
 some_same a b h = cc
 
-first_is : {A : Type 0} (a b : Option A) (x : A) → a ≡ Some x → option_or a b ≡ Some x
+pub first_is : {A : Type 0} (a b : Option A) (x : A) → a ≡ Some x → option_or a b ≡ Some x
 first_is a b x h = ap (λ o. option_or o b) h
 
 pub refused_before : (broken : Option Fault) (t : Trace Act) (queued : ℕ) (name : List ℕ) (r : Option OpenRefusal) (why : OpenRefusal) → r ≡ before_room broken t name → r ≡ Some why → IsOpenCause (why_not_opened broken t queued name) why
@@ -197,7 +172,7 @@ refused_before broken t queued name r why is some =
     (λ e. never_memory broken (not (is_ready t)) (name_fault name) (nat_lt 256 (next_id t)) (before ∙ ap Some e))
 
 -- the room of the frame, by the count of its bytes
-frame_size_is : (bytes : List ℕ) → length (joined (frame_fields (Channel bytes))) ≡ length bytes + 3
+pub frame_size_is : (bytes : List ℕ) → length (joined (frame_fields (Channel bytes))) ≡ length bytes + 3
 frame_size_is bytes = omega (arith, length-append bytes [])
 
 pub why_by_room : (broken : Option Fault) (t : Trace Act) (queued id : ℕ) (name bytes : List ℕ) (r : Option OpenRefusal) → r ≡ before_room broken t name → r ≡ None → id ≡ next_id t

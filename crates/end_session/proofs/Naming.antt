@@ -21,11 +21,11 @@ pub not_when : {A : Type 0} (b : Bool) (x : A) → when b x ≡ None → b ≡ f
 not_when true x h = cc
 not_when false x h = refl
 
-or_first : (a b : Bool) → a || b ≡ false → a ≡ false
+pub or_first : (a b : Bool) → a || b ≡ false → a ≡ false
 or_first true b h = absurd (let e : true ≡ false = h in cc)
 or_first false b h = refl
 
-or_second : (a b : Bool) → a || b ≡ false → b ≡ false
+pub or_second : (a b : Bool) → a || b ≡ false → b ≡ false
 or_second true b h = absurd (let e : true ≡ false = h in cc)
 or_second false b h = h
 

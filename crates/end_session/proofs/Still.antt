@@ -21,11 +21,11 @@ use Rattle.end_session.specs.Standing.{AreKept, AreTold, Knows}
 use Rattle.end_session.specs.Store.{Store}
 use Rattle.end_session.proofs.KnownOf.{live_is}
 
-or_none : {A : Type 0} (o : Option A) → option_or o None ≡ o
+pub or_none : {A : Type 0} (o : Option A) → option_or o None ≡ o
 or_none None = refl
 or_none (Some x) = refl
 
-or_false : (b : Bool) → b || false ≡ b
+pub or_false : (b : Bool) → b || false ≡ b
 or_false true = refl
 or_false false = refl
 
@@ -60,19 +60,25 @@ pub record SaysNothing (act : Act) : Type 0 where
   pub no_version : version_in act ≡ None
   pub no_capabilities : tells_capabilities (came act) ≡ false
 
-told_still : {A : Type 0} (tells : Act → List A) (t : Trace Act) (act : Act) → tells act ≡ [] → all_told tells (t ▷ act) ≡ all_told tells t
+pub told_still : {A : Type 0} (tells : Act → List A) (t : Trace Act) (act : Act) → tells act ≡ [] → all_told tells (t ▷ act) ≡ all_told tells t
 told_still tells t act e = ap (λ x. all_told tells t ++ x) e ∙ append-nil (all_told tells t)
 
+pub made_same : (t : Trace Act) (act : Act) → made_by act ≡ [] → answer_read act ≡ [] → made (t ▷ act) ≡ made t
+made_same t act none_made no_answer = ap (λ x. exchanges x (all_told answer_read (t ▷ act))) (told_still made_by t act none_made) ∙ ap (exchanges (all_told made_by t)) (told_still answer_read t act no_answer)
+
+pub read_same : (t : Trace Act) (act : Act) → read_by act ≡ [] → answer_made act ≡ [] → read (t ▷ act) ≡ read t
+read_same t act none_read no_answer = ap (λ x. exchanges x (all_told answer_made (t ▷ act))) (told_still read_by t act none_read) ∙ ap (exchanges (all_told read_by t)) (told_still answer_made t act no_answer)
+
 pub made_still : (t : Trace Act) (act : Act) → SaysNothing act → made (t ▷ act) ≡ made t
-made_still t act s = ap (λ x. exchanges x (all_told answer_read (t ▷ act))) (told_still made_by t act s.none_made) ∙ ap (exchanges (all_told made_by t)) (told_still answer_read t act s.no_answer_read)
+made_still t act s = made_same t act s.none_made s.no_answer_read
 
 pub read_still : (t : Trace Act) (act : Act) → SaysNothing act → read (t ▷ act) ≡ read t
-read_still t act s = ap (λ x. exchanges x (all_told answer_made (t ▷ act))) (told_still read_by t act s.none_read) ∙ ap (exchanges (all_told read_by t)) (told_still answer_made t act s.no_answer_made)
+read_still t act s = read_same t act s.none_read s.no_answer_made
 
-ready_still : (t : Trace Act) (act : Act) → SaysNothing act → is_ready (t ▷ act) ≡ is_ready t
+pub ready_still : (t : Trace Act) (act : Act) → SaysNothing act → is_ready (t ▷ act) ≡ is_ready t
 ready_still t act s = ap (λ x. is_ready t || x) s.no_capabilities ∙ or_false (is_ready t)
 
-version_still : (t : Trace Act) (act : Act) → SaysNothing act → or_zero (first_told version_in (t ▷ act)) ≡ or_zero (first_told version_in t)
+pub version_still : (t : Trace Act) (act : Act) → SaysNothing act → or_zero (first_told version_in (t ▷ act)) ≡ or_zero (first_told version_in t)
 version_still t act s = ap or_zero (ap (option_or (first_told version_in t)) s.no_version ∙ or_none (first_told version_in t))
 
 pub record IsStill (role : Role) (t : Trace Act) (act : Act) : Type 0 where

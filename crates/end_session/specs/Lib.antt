@@ -1,6 +1,16 @@
+pub mod AnswerDue
 pub mod AskedView
+pub mod BeforeRoom
 pub mod Causes
+pub mod Closing
+pub mod Drawing
+pub mod Giving
 pub mod Known
+pub mod MessageGiven
+pub mod OfKind
 pub mod Outgoing
+pub mod Refusals
+pub mod Releasing
 pub mod Standing
 pub mod Store
+pub mod Writes

@@ -30,3 +30,8 @@ says heard o = record o { main = o.main ++ framed heard }
 -- a tunnel PDU is written for a link
 abbrev pub carries : Kind → Drawn → Outgoing → Outgoing
 carries kind drawn o = with_bytes kind (tunneled drawn) o
+
+-- what waited for a link was given
+abbrev pub emptied : Kind → Outgoing → Outgoing
+emptied Reliable o = record o { reliable = [] }
+emptied Lossy o = record o { lossy = [] }

@@ -1,5 +1,5 @@
 -- What an end keeps stands for what it did.
-use Rattle.std.specs.Prelude.{◌≡◌, ℕ, ◌≤◌, Bool, true, false, List, [], ◌∷◌, ◌++◌, length, nat_eq, Some}
+use Rattle.std.specs.Prelude.{◌≡◌, ℕ, ◌≤◌, Bool, true, false, List, [], ◌∷◌, ◌++◌, length, nat_eq, Some, Ok}
 use Rattle.std.specs.Option.{unwrap_or}
 use Rattle.std.specs.List.{flat_map}
 use Rattle.std.specs.Map.{lookup, keys_of}
@@ -8,6 +8,7 @@ use Rattle.mt_base.specs.declared.kinds.Role.{Role}
 use Rattle.mt_base.specs.Trace.{Trace}
 use Rattle.dvc_channels.specs.Table as channels
 use Rattle.dvc_channels.specs.Acts.{ids}
+use Rattle.dvc_pdus.specs.Reading.{reading}
 use Rattle.soft_sync.specs.Words.{Words}
 use Rattle.hold_queue.specs.Held as hold
 use Rattle.mt_endpoint.specs.Acts.{Act, Drawn}
@@ -38,9 +39,12 @@ pub record AreWords (role : Role) (t : Trace Act) (w : Words) : Type 0 where
   pub made_are : w.made ≡ made t
   pub read_are : w.read ≡ read t
 
--- a PDU that is held, with its channel, and its place as it is told
+-- a PDU that is held, with its channel, its place as it is told, and the bytes that it was read from
+-- (those of data and of a close are read alike, whichever end wrote them)
 abbrev pub IsKeptAs : Held → hold.Pdu → Type 0
-IsKeptAs h pdu = (channel_of h.pdu ≡ Some pdu.id) × (pdu.at ≡ told_place h.at) × (pdu.bytes ≡ h.bytes)
+IsKeptAs h pdu =
+    (channel_of h.pdu ≡ Some pdu.id) × (pdu.at ≡ told_place h.at) × (pdu.bytes ≡ h.bytes)
+    × ((from : Role) → reading from h.bytes ≡ Ok h.pdu)
 
 abbrev pub AreKept : List Held → List hold.Pdu → Type 0
 AreKept [] [] = Unit {0}

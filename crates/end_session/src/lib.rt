@@ -1,27 +1,50 @@
-//! One end of a session without its links, as far as it is built: it is made, a server creates channels,
-//! and bytes of the main stream and whole messages are handed out. What it reads, and its tunnels, are
-//! still to come; their parts stand here already.
+//! One end of a session without its links, as far as it is built: the steps of its own, and what it reads,
+//! PDU by PDU. What puts these together, and gives them their links, is still to come (docs/ENDPOINT.md).
 //!
 //! Below it stand `end_calls` and `mt_endpoint`, whose definitions it follows. A [`Session`] stands for the
 //! acts so far (`specs/Standing.antt`): its channels, words, issued requests, tunnels and held PDUs are what
 //! these acts made, and what waits in [`Outgoing`] is what they wrote and was not handed out. Each call says
-//! which act it adds. Of its parts, a [`MainQueue`] and an [`Outlet`] are lists of bytes, a [`Stream`] is the
-//! value under way, and a [`Tunnel`] is what acts have told of it ([`a_tunnel_is_what_acts_made`]).
+//! which act it adds, or the one [`Cause`] or refusal for which it adds none. Of its parts, a [`MainQueue`] and
+//! an [`Outlet`] are lists of bytes, a [`Stream`] is the value under way, and a [`Tunnel`] is what acts have
+//! told of it ([`a_tunnel_is_what_acts_made`]).
 #![tactic(auto)]
 
+mod answering;
+mod asking;
+mod attaching;
+mod by_kind;
+mod cause;
+mod closes;
+mod closing;
+mod drawing;
+mod giving;
 mod handing;
+mod hearing_channels;
+mod hearing_data;
+mod hearing_moves;
+mod hearing_tunnels;
+mod judging;
+mod keeping;
 mod laws;
+mod moving;
 mod opening;
 mod outgoing;
 mod outlet;
 mod queue;
+mod reading;
+mod refusing;
+mod releasing;
 mod room;
+mod sending;
 mod session;
+mod silencing;
 mod spelled;
 mod stream;
 mod taking;
 mod tunnel;
+mod writing;
 
+pub use cause::Cause;
 pub use laws::a_tunnel_is_what_acts_made;
 pub use outgoing::Outgoing;
 pub use outlet::Outlet;
@@ -29,6 +52,3 @@ pub use queue::MainQueue;
 pub use session::Session;
 pub use stream::Stream;
 pub use tunnel::{Asked, Tunnel, TunnelState};
-
-#[cfg(test)]
-mod tests;

@@ -10,10 +10,10 @@ use dvc_pdus::DvcPdu;
 use end_calls::OpenRefusal;
 
 /// The channels that a session ever has at most.
-const CHANNELS: usize = 256;
+pub(crate) const CHANNELS: usize = 256;
 
 /// The bytes of a frame before its body.
-const HEADER: usize = 3;
+pub(crate) const HEADER: usize = 3;
 
 /// The bytes of a name at most.
 const NAME: usize = 255;

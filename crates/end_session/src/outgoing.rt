@@ -36,7 +36,7 @@ impl Outgoing {
     ghost use Rattle.tunnel_pdus.specs.Value.{Channel, Data, FitsFrame, FitsPdu, frame_fields, pdu_fields};
     ghost use Rattle.tunnel_pdus.specs.Views.{frame_of, pdu_of};
     ghost use Rattle.end_calls.specs.declared.limits.TheConstants.{MAIN_QUEUE};
-    ghost use Rattle.end_session.specs.Outgoing.{nothing_waits, waiting_for, with_bytes};
+    ghost use Rattle.end_session.specs.Outgoing.{emptied, nothing_waits, waiting_for, with_bytes};
 
     /// Nothing waits.
     pub fn new(alloc: Global) -> Result<Outgoing, NoMemory>
@@ -112,5 +112,25 @@ impl Outgoing {
         ensures { self.new ≡ with_bytes kind (joined (pdu_fields (Data pdu.now))) self.old }
     {
         self.put_tunnel(kind, &TunnelPdu::Data { payload: pdu });
+    }
+
+    /// What waits for the link of this kind.
+    pub fn waiting(&self, kind: Kind) -> &[u8]
+        ensures { result.now ≡ waiting_for kind self.now }
+    {
+        match kind {
+            Kind::Reliable => self.reliable.bytes(),
+            Kind::Lossy => self.lossy.bytes(),
+        }
+    }
+
+    /// The link of this kind was given all that waited for it.
+    pub fn clear(&mut self, kind: Kind)
+        ensures { self.new ≡ emptied kind self.old }
+    {
+        match kind {
+            Kind::Reliable => self.reliable.clear(),
+            Kind::Lossy => self.lossy.clear(),
+        }
     }
 }

@@ -19,7 +19,7 @@ use std::marker::Model;
 use tunnel_cookies::Issued;
 
 /// The version of the capabilities that an end tells (MS-RDPEDYC section 2.2.1).
-const VERSION: u16 = 3;
+pub(crate) const VERSION: u16 = 3;
 
 /// One end of a session, without its links and without the streams that it reads. Clauses see it as
 /// what it keeps, which stands for the acts so far.

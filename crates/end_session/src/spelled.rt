@@ -1,6 +1,10 @@
 //! A channel PDU with its bytes.
 
-use dvc_pdus::{DvcPdu, write_dvc, write_sync};
+ghost use Rattle.std.specs.Prelude.{◌≡◌, if◌then◌else◌};
+
+use dvc_pdus::{DvcPdu, write_dvc, write_sync, write_sync_response};
+use mt_base::Kind;
+use soft_sync::Kinds;
 use std::marker::Model;
 
 /// The bytes of the greatest channel PDU.
@@ -11,6 +15,20 @@ const SPELLED: usize = 1_600;
 pub struct Spelled {
     bytes: [u8; 1600],
     length: usize,
+}
+
+/// Where the kinds that are named begin among both, the reliable one first.
+fn first_type(named: Kinds) -> usize
+    ensures { result ≡ (if named.reliable then 0 else 1) }
+{
+    if named.reliable { 0 } else { 1 }
+}
+
+/// And where they end.
+fn last_type(named: Kinds) -> usize
+    ensures { result ≡ (if named.lossy then 2 else 1) }
+{
+    if named.lossy { 2 } else { 1 }
 }
 
 impl Model for Spelled {
@@ -27,7 +45,8 @@ impl Spelled {
     ghost use Rattle.std.specs.Prelude.{◌≡◌, ◌≤◌, length};
     ghost use Rattle.mt_base.specs.declared.kinds.Role.{Role};
     ghost use Rattle.mt_base.specs.declared.kinds.Role.TheVariants.{Server};
-    ghost use Rattle.dvc_pdus.specs.Value.{IsPdu, spelled, sync_request};
+    ghost use Rattle.dvc_pdus.specs.Value.{IsPdu, SyncResponse, spelled, sync_request};
+    ghost use Rattle.mt_endpoint.specs.Writing.{types_of};
     ghost use Rattle.dvc_pdus.specs.Views.{pdu_of};
 
     /// The bytes of a PDU.
@@ -49,6 +68,20 @@ impl Spelled {
     {
         let mut bytes = [0; SPELLED];
         let Ok(length) = write_sync(reliable, lossy, &mut bytes) else {
+            unreachable!()
+        };
+        Spelled { bytes, length }
+    }
+
+    /// The bytes of the Soft-Sync response that names these kinds, the reliable one first (MS-RDPEDYC section
+    /// 2.2.5.2).
+    pub fn of_sync_response(named: Kinds) -> Spelled
+        ensures { result ≡ spelled (SyncResponse (types_of named)) }
+    {
+        let both = [Kind::Reliable, Kind::Lossy];
+        let types = &both[first_type(named)..last_type(named)];
+        let mut bytes = [0; SPELLED];
+        let Ok(length) = write_sync_response(types, &mut bytes) else {
             unreachable!()
         };
         Spelled { bytes, length }

@@ -1,5 +1,9 @@
 //! What is known of one tunnel.
 
+ghost use Rattle.std.specs.Prelude.{◌≡◌, Some, None, option_map, if◌then◌else◌};
+ghost use Rattle.mt_endpoint.specs.Tunnels.{is_for, not_zero};
+ghost use Rattle.end_session.specs.AskedView.{request_of};
+
 use mt_base::Role;
 use std::marker::Model;
 
@@ -38,6 +42,20 @@ pub struct Tunnel {
     silence: Option<u32>,
 }
 
+/// The code by which a response with this id refuses the tunnel that was asked for.
+fn refusal_for(asked: Option<Asked>, id: u32, hr: u32) -> Option<u32>
+    ensures { result ≡ (if is_for (option_map request_of asked) id then not_zero (Some hr) else None) }
+{
+    let Some(asked) = asked else { return None };
+    if asked.id != id {
+        return None;
+    }
+    if hr == 0 {
+        return None;
+    }
+    Some(hr)
+}
+
 impl Model for Tunnel {
     ghost use Rattle.std.specs.Prelude.{option_map};
     ghost use Rattle.end_session.specs.Known.{Known};
@@ -49,7 +67,8 @@ impl Model for Tunnel {
 }
 
 impl Tunnel {
-    ghost use Rattle.std.specs.Prelude.{◌≡◌, Some, true, is_some, option_map};
+    ghost use Rattle.std.specs.Prelude.{◌≡◌, Some, None, true, is_some, option_map, if◌then◌else◌};
+    ghost use Rattle.mt_endpoint.specs.Tunnels.{is_for, not_zero};
     ghost use Rattle.std.specs.Option.{option_or};
     ghost use Rattle.end_session.specs.Known.{Known, unknown, tunnel_in, state_of, is_open_in, is_live_in, is_settled_in, refusal_in};
     ghost use Rattle.end_session.specs.AskedView.{request_of};
@@ -103,6 +122,14 @@ impl Tunnel {
         self.told_refusal = self.told_refusal.or(Some(hr));
     }
 
+    /// The client tells what became of the tunnel that it was asked for under this id (MS-RDPBCGR section
+    /// 2.2.15.2). Where it is this one, a code that isn't 0 refuses it.
+    pub fn got_response(&mut self, id: u32, hr: u32)
+        ensures { self.new ≡ record self.old { told_refusal = option_or self.old.told_refusal (if is_for self.old.asked id then not_zero (Some hr) else None) } }
+    {
+        self.told_refusal = self.told_refusal.or(refusal_for(self.asked, id, hr));
+    }
+
     /// It is silent after so many expiries. The first count stays.
     pub fn set_silent(&mut self, expiries: u32)
         ensures { self.new ≡ record self.old { silence = option_or self.old.silence (Some expiries) } }
@@ -139,6 +166,13 @@ impl Tunnel {
             Role::Server => self.was_opened,
             Role::Client => self.answer == Some(0),
         }
+    }
+
+    /// After how many expiries it is silent, where it is.
+    pub fn silence(&self) -> Option<u32>
+        ensures { result ≡ self.now.silence }
+    {
+        self.silence
     }
 
     /// Whether it is silent.

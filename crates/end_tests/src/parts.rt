@@ -1,5 +1,6 @@
-use super::*;
-use end_calls::OpenRefusal;
+//! The parts of an end: its queue, a stream, a tunnel.
+
+use end_session::{MainQueue, Stream, Tunnel, TunnelState};
 use mt_base::Role;
 use std::test::*;
 
@@ -33,30 +34,4 @@ fn the_first_refusal_counts(rt: HostRuntime) {
         tunnel.state(Role::Server),
         TunnelState::Silent { expiries: 17 }
     );
-}
-
-#[test]
-fn a_server_tells_its_capabilities(rt: HostRuntime) -> Result<(), Fail> {
-    let mut server = Session::new(rt.alloc(), Role::Server)?;
-    assert_eq!(rt; server.main_queued(), 15);
-    let mut out = [9; 16];
-    assert_eq!(rt; server.main_out(&mut out), 15);
-    assert_eq!(rt; out, [3, 12, 0, 0x50, 0, 3, 0, 0, 0, 0, 0, 0, 0, 0, 0, 9]);
-    Ok(())
-}
-
-#[test]
-fn a_client_begins_silently(rt: HostRuntime) -> Result<(), Fail> {
-    let mut client = Session::new(rt.alloc(), Role::Client)?;
-    assert_eq!(rt; client.main_queued(), 0);
-    assert!(rt; client.take(1).is_none());
-    Ok(())
-}
-
-#[test]
-fn no_channel_before_capabilities_are_read(rt: HostRuntime) -> Result<(), Fail> {
-    let mut server = Session::new(rt.alloc(), Role::Server)?;
-    assert_eq!(rt; server.open_channel(b"echo"), Err(OpenRefusal::NotReady));
-    assert_eq!(rt; server.main_queued(), 15);
-    Ok(())
 }
