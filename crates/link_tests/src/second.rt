@@ -10,7 +10,7 @@ use link_net::{Ending, Step, Story, play};
 use mt_base::NoMemory;
 use std::alloc::Global;
 use std::test::*;
-use udp2_core::{Udp2Core, one_part_goes_over, second_layout_is_read};
+use udp2_core::{Udp2Core, numbers_wrap, one_part_goes_over, second_layout_is_read};
 
 /// The part 1 of two bytes, as the transmission 1.
 const PART_1: [u8; 9] = [0x41, 0x04, 0x60, 1, 0, 1, 0, 0xe0, 0x42];
@@ -36,4 +36,5 @@ fn ends(alloc: Global, story: &Story) -> Result<Ending, NoMemory> {
 fn laws_hold() {
     second_layout_is_read();
     one_part_goes_over();
+    numbers_wrap();
 }
