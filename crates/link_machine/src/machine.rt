@@ -12,7 +12,7 @@ ghost use Rattle.carrier.specs.Sending.{Timer, acts, hears, timer_told};
 ghost use Rattle.carrier.specs.Due.{is_pressing, own_floor, IsNextDue};
 ghost use Rattle.carrier.specs.LayoutLaw.{IsCarried};
 ghost use Rattle.carrier.specs.Receiving.{receives, owes, floor_shown};
-ghost use Rattle.carrier.specs.Law.{answer_load, Faithful};
+ghost use Rattle.carrier.specs.Law.{IsBytes, answer_load, Faithful};
 ghost use Rattle.carrier.specs.declared.state.LinkState.TheVariants.{Open, Closed as IsClosed};
 ghost use Rattle.carrier.specs.declared.state.Took.TheVariants.{Ignored};
 ghost use Rattle.carrier.specs.declared.state.Reason.TheVariants as reason;
@@ -254,6 +254,33 @@ impl<L: WireLayout> Machine<L> {
         self.moment = 0;
         self.sender.restart(sender);
         self.receiver.restart(receiver);
+    }
+
+    /// The same memory for a machine of another layout. It is as a new one that was given the bytes
+    /// which were given to this one and not cut into parts; all else is forgotten. It takes no memory.
+    pub fn renewed<M: WireLayout>(
+        self,
+        sender: SenderConfig,
+        receiver: ReceiverConfig,
+    ) -> Machine<M>
+        requires own { (1 ≤ sender.own) × (sender.own ≤ 2 ^ 32) }
+        requires peer { (1 ≤ receiver.peer) × (receiver.peer ≤ 2 ^ 32) }
+        requires wait { sender.wait ≤ 500 }
+        requires delay { receiver.delay ≤ 200 }
+        ensures stands { let waiting = self.sender.outbox.waiting in
+            IsBytes waiting → Stands M.wire result (Start ▷ Gave waiting) }
+        ensures empty { self.sender.outbox.waiting ≡ [] → Stands M.wire result Start }
+        ensures layout { layout_at M.wire result ≡
+            layout_of M.wire sender.wait receiver.delay sender.own receiver.peer }
+        ensures left { left_of result.receiver.inbox ≡ [] }
+        ensures queued { queued_of result.sender.outbox ≡ length self.sender.outbox.waiting }
+        ensures open { condition_of result ≡ Open }
+    {
+        Machine {
+            moment: 0,
+            sender: self.sender.renewed(sender),
+            receiver: self.receiver.renewed(receiver),
+        }
     }
 
     /// Makes so many tellings more owed.

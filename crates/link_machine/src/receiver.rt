@@ -88,6 +88,27 @@ impl<L: WireLayout> Receiver<L> {
         self.since = 0;
     }
 
+    /// The same memory for a half of another layout. Everything is forgotten.
+    pub fn renewed<M: WireLayout>(self, config: ReceiverConfig) -> Receiver<M>
+        requires from { 1 ≤ config.peer }
+        requires below { config.peer ≤ 2 ^ 32 }
+        requires delay { config.delay ≤ 200 }
+        ensures stands { Hears result nothing 0 0 [] }
+        ensures config { result.config ≡ config }
+        ensures left { left_of result.inbox ≡ [] }
+    {
+        Receiver {
+            config,
+            window: self.window.renewed(config.peer),
+            seen: self.seen.renewed(config.peer),
+            last: None,
+            floor: 0,
+            owed: 0,
+            since: 0,
+            layout: PhantomData,
+        }
+    }
+
     /// Makes so many tellings more owed, from this moment on.
     pub fn owe(&mut self, count: u32, at: u64)
         requires { at < 2 ^ 62 }

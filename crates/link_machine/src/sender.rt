@@ -1,6 +1,6 @@
 //! The sending half of the machine: the window of parts, what the other end told, and the timer.
 
-ghost use Rattle.std.specs.Prelude.{◌≡◌, ◌+◌, ◌-◌, ◌<◌, ◌≤◌, ◌^◌, ◌&&◌, ◌||◌, ℕ, Option, Some, None, true, All, length, take, drop, min, nat_le, is_some, if◌then◌else◌, IfOk, IfSome, OnOk, OnErr, Ok, Err, nat_lt, option_copied};
+ghost use Rattle.std.specs.Prelude.{◌≡◌, ◌+◌, ◌-◌, ◌<◌, ◌≤◌, ◌^◌, ◌&&◌, ◌||◌, [], ℕ, Option, Some, None, true, All, length, take, drop, min, nat_le, is_some, if◌then◌else◌, IfOk, IfSome, OnOk, OnErr, Ok, Err, nat_lt, option_copied};
 ghost use Rattle.mt_base.specs.Trace.{Trace, Start, ◌▷◌};
 ghost use Rattle.mt_windows.specs.Sending.Act.{Gave, Cut, Resent};
 ghost use Rattle.mt_windows.specs.Sending.{Act, queued, cuts, transmissions, next_piece, piece, lowest, lowest_or_next, settles_part, tells_part};
@@ -85,6 +85,31 @@ impl<L: WireLayout> Sender<L> {
             start: 0,
             expiries: 0,
         };
+    }
+
+    /// The same memory for a half of another layout. The bytes that wait are as given at its start;
+    /// all else is forgotten.
+    pub fn renewed<M: WireLayout>(self, config: SenderConfig) -> Sender<M>
+        requires from { 1 ≤ config.own }
+        requires below { config.own ≤ 2 ^ 32 }
+        requires wait { config.wait ≤ 500 }
+        ensures stands { Speaks result (Start ▷ Gave self.outbox.waiting) WINDOW (record { start = 0; expiries = 0 }) }
+        ensures empty { self.outbox.waiting ≡ [] →
+            Speaks result Start WINDOW (record { start = 0; expiries = 0 }) }
+        ensures config { result.config ≡ config }
+        ensures queued { queued_of result.outbox ≡ length self.outbox.waiting }
+        ensures fresh { result.timer.expiries ≡ 0 }
+    {
+        Sender {
+            config,
+            window: self.window.renewed(config.own),
+            peer_window: WINDOW,
+            clock: Clock {
+                start: 0,
+                expiries: 0,
+            },
+            layout: PhantomData,
+        }
     }
 
     /// How many bytes were given and are not in a settled part.

@@ -29,6 +29,3 @@ pub use limits::{DATAGRAM, NUMBERS, PART, QUEUE, SPAN, TELL, WINDOW};
 pub use receive::{Accept, ReceiveWindow};
 pub use seen::Seen;
 pub use send::{Full, SendWindow, Sent};
-
-#[cfg(test)]
-mod tests;

@@ -93,6 +93,35 @@ impl<W: Width> ReceiveWindow<W> {
         self.accepted.clear_all();
     }
 
+    /// The same memory for parts from the number `first` on, whose numbers have another width.
+    /// Everything is forgotten.
+    pub fn renewed<V: Width>(self, first: u64) -> ReceiveWindow<V>
+        requires from { 1 ≤ first }
+        requires below { first < 2 ^ 33 }
+        ensures starts { Receives result first [] 0 }
+        ensures left { left_of result ≡ [] }
+    {
+        let mut lengths = self.lengths;
+        let mut ordered = self.ordered;
+        let mut slots = self.slots;
+        let mut accepted = self.accepted;
+        lengths.clear();
+        ordered.clear();
+        slots.clear();
+        accepted.clear_all();
+        ReceiveWindow {
+            first,
+            passed: 0,
+            lengths,
+            used: 0,
+            ordered,
+            greatest: None,
+            slots,
+            accepted,
+            width: PhantomData,
+        }
+    }
+
     /// The number of the least part that was not handed out in full.
     pub fn drained(&self) -> u64
         ensures drained { (first : ℕ) (parts : Parts) (n : ℕ) → Receives self.now first parts n → result ≡ first + drained parts n }

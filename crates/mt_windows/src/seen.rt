@@ -56,6 +56,22 @@ impl<W: Width> Seen<W> {
         self.recent.clear_all();
     }
 
+    /// The same memory for numbers that begin at `_first` and have another width. Everything is
+    /// forgotten.
+    pub fn renewed<V: Width>(self, _first: u64) -> Seen<V>
+        requires from { 1 ≤ _first }
+        requires below { _first < 2 ^ 33 }
+        ensures { Notes result [] }
+    {
+        let mut recent = self.recent;
+        recent.clear_all();
+        Seen {
+            greatest: None,
+            recent,
+            width: PhantomData,
+        }
+    }
+
     /// Notes that the number was seen.
     pub fn note(&mut self, number: u64)
         ensures { (noted : List ℕ) → Notes self.old noted → Notes self.new (number ∷ noted) }

@@ -1,6 +1,6 @@
 //! The window of a link's sender.
 
-ghost use Rattle.std.specs.Prelude.{◌≡◌, ◌+◌, ◌-◌, ◌<◌, ◌≤◌, ◌^◌, ◌⊎◌, ◌&&◌, ◌==◌, ℕ, Bool, List, true, not, nat_lt, nat_le, if◌then◌else◌, length, take, drop, option_map, IfOk, IfSome, OnOk, OnErr, IsSome, is_some};
+ghost use Rattle.std.specs.Prelude.{◌≡◌, ◌+◌, ◌-◌, ◌<◌, ◌≤◌, ◌^◌, ◌⊎◌, ◌&&◌, ◌==◌, [], ℕ, Bool, List, true, not, nat_lt, nat_le, if◌then◌else◌, length, take, drop, option_map, IfOk, IfSome, OnOk, OnErr, IsSome, is_some};
 ghost use Rattle.mt_base.specs.Trace.{Trace, Start, ◌▷◌};
 ghost use Rattle.mt_windows.specs.Sending.Act.{Gave, Cut, Resent};
 ghost use Rattle.mt_windows.specs.Sending.{Act, cuts, transmissions, next_piece, piece, queued, may_cut, reach, lowest, lowest_or_next, passed_over, floor_transmission, waiting, settles_part, settles_transmission, tells_part, tells_transmission};
@@ -100,6 +100,34 @@ impl<W: Width> SendWindow<W> {
         self.waiting.clear();
         self.carried.clear();
         self.flights.clear();
+    }
+
+    /// The same memory for parts and transmissions that are numbered from `first` on, whose numbers
+    /// have another width. The bytes that wait are as given at its start; all else is forgotten.
+    pub fn renewed<V: Width>(self, first: u64) -> SendWindow<V>
+        requires from { 1 ≤ first }
+        requires below { first < 2 ^ 33 }
+        ensures stands { Sends result first (Start ▷ Gave self.waiting) }
+        ensures empty { self.waiting ≡ [] → Sends result first Start }
+        ensures queued { queued_of result ≡ length self.waiting }
+    {
+        let mut flights = self.flights;
+        let mut carried = self.carried;
+        flights.clear();
+        carried.clear();
+        SendWindow {
+            first,
+            waiting: self.waiting,
+            base: 0,
+            cut: 0,
+            made: 0,
+            told: 0,
+            second: 0,
+            third: 0,
+            flights,
+            carried,
+            width: PhantomData,
+        }
     }
 
     /// Takes all of these bytes, or says how many are queued where they would pass the limit.
