@@ -1,55 +1,26 @@
 -- The text of a datagram up to the bytes of its part: the flags that it tells, and its packet.
-use Rattle.std.proofs.Common.{◌≡◌, ℕ, zero, suc, ◌+◌, ◌<◌, ◌≤◌, Bool, false, List, [], ◌∷◌, ◌++◌, length, get_or, take, drop, All, Option, Some, None, option_map, refl, sym, ap, ◌∙◌, subst, arith}
-use Rattle.std.proofs.Math.Seq.{take-append_seam}
+use Rattle.std.proofs.Common.{◌≡◌, ℕ, ◌≤◌, Bool, List, ◌++◌, length, drop, All, Option, Some, None, option_map, ap, ◌∙◌, subst, arith}
 use Rattle.ack_vector.specs.Elements.{IsGood}
 use Rattle.ack_vector.specs.Longest.{elements_of}
 use Rattle.ack_vector.proofs.LongestLemmas.{holds, holds_length, holds_spell}
 use Rattle.mt_windows.specs.Arrived.{Parts}
 use Rattle.mt_windows.specs.declared.limits.TheConstants.{WINDOW}
-use Rattle.carrier.specs.Layout.{Telling}
 use Rattle.link_machine.specs.declared.numbers.Numbers.{Numbers}
 use Rattle.udp1_packets.specs.Layout.{spelled}
 use Rattle.udp1_packets.specs.Value.{Packet}
 use Rattle.udp1_core.specs.ContentsView.{head_body}
-use Rattle.udp1_core.specs.FirstLayout.{bytes_left_out, flags_from, low, named_of, packet_with, telling_of, vector_in}
+use Rattle.udp1_core.specs.FirstLayout.{bytes_left_out, low, named_of, packet_with, telling_of, vector_in}
 
 -- ---- the flags that are told
-
--- flags that say of each number whether it was received are those that are told
-pub flags_are : (has : ℕ → Bool) (from n : ℕ) (flags : List Bool) → length flags ≡ n
-    → ((k : ℕ) → k < n → get_or flags k false ≡ has (from + k)) → flags ≡ flags_from has from n
-flags_are has from zero [] size say = refl
-flags_are has from zero (flag ∷ flags) size say = absurd (omega (arith, size))
-flags_are has from (suc n) [] size say = absurd (omega (arith, size))
-flags_are has from (suc n) (flag ∷ flags) size say =
-    let here : from + 0 ≡ from = omega arith in
-    let first : flag ≡ has from = say 0 (omega arith) ∙ ap has here in
-    ap (λ f. f ∷ flags) first
-    ∙ ap (λ fs. has from ∷ fs) (flags_are has (from + 1) n flags (omega (arith, size))
-    (λ k less. let there : from + suc k ≡ from + 1 + k = omega arith in
-    say (suc k) (omega (arith, less)) ∙ ap has there))
 
 -- the elements of as many flags as a window has have a place
 pub elements_fit : (flags : List Bool) → length flags ≤ WINDOW → length (elements_of flags) ≤ WINDOW
 elements_fit flags short =
     omega (arith, holds_length (elements_of flags) flags (holds flags), short)
 
--- what was written is at the front
-pub written_front : (n : ℕ) (bytes out new : List ℕ)
-    → (n ≡ length bytes) × (new ≡ bytes ++ drop n out) → take n new ≡ bytes
-written_front n bytes out new is =
-    ap (take n) is.1 ∙ ap (λ m. take m (bytes ++ drop n out)) is.0
-    ∙ take-append_seam bytes (drop n out)
-
 -- the elements that are written are good
 pub elements_good : (flags : List Bool) → All IsGood (elements_of flags)
 elements_good flags = (holds_spell (elements_of flags) flags (holds flags)).good
-
--- flags of the numbers that are told
-pub told_flags : (has : ℕ → Bool) (from told count size : ℕ) (flags : List Bool) → from ≡ told
-    → count ≡ size → flags ≡ flags_from has from count → flags ≡ flags_from has told size
-told_flags has from told count size flags e f is =
-    is ∙ ap (λ m. flags_from has m count) e ∙ ap (flags_from has told) f
 
 -- ---- the packet
 

@@ -9,12 +9,16 @@ ghost use Rattle.udp1_packets.specs.Views.{packet_of};
 ghost use Rattle.udp1_core.specs.ContentsView.{head_body};
 ghost use Rattle.udp1_core.specs.FirstLayout.{first_wire, flags_in, flags_from, telling_of, named_of, low};
 
-use ack_vector::write_runs;
+use ack_vector::RunWriter;
 use carrier::WITH_TELLING;
 use link_machine::{Got, Numbers};
-use mt_base::{W32, Width};
+use mt_base::{Out, W32, Width};
 use mt_windows::{PART, WINDOW};
 use udp1_packets::{Body1, Packet1, write1};
+
+/// Elements of a vector at most: it tells of the last numbers that a window holds, and an element
+/// tells of one number or more.
+const ELEMENTS: usize = WINDOW as usize;
 
 /// Writes a datagram up to the bytes of its part, and gives its length.
 pub fn write_head(
@@ -32,7 +36,7 @@ pub fn write_head(
     ensures rest { drop result out.new ≡ drop result out.old }
 {
     let named = named(got);
-    let mut elements = [0; 64];
+    let mut elements = [0; ELEMENTS];
     let mut vector = None;
     if tells {
         let count = write_elements(got, &mut elements);
@@ -58,7 +62,7 @@ fn named(got: &Got<'_, W32>) -> u64
 }
 
 /// Writes the elements of the vector that tells what was received, and gives how many.
-fn write_elements(got: &Got<'_, W32>, out: &mut [u8; 64]) -> usize
+fn write_elements(got: &Got<'_, W32>, out: &mut [u8; ELEMENTS]) -> usize
     requires { 1 ≤ got.now.peer }
     ensures bound { result ≤ WINDOW }
     ensures good { All IsGood (take result out.new) }
@@ -70,28 +74,31 @@ fn write_elements(got: &Got<'_, W32>, out: &mut [u8; 64]) -> usize
         .peer
         .max(got.floor)
         .max(named.saturating_sub(WINDOW - 1));
-    let count = if from <= named {
-        (named - from + 1) as usize
-    } else {
-        0
-    };
-    let mut flags = [false; 64];
-    let flags = &mut flags[..count];
-    mark(got, from, flags);
-    match write_runs(flags, out) {
-        Ok(length) => length,
-        Err(_) => unreachable!(),
-    }
+    let count = if from <= named { named - from + 1 } else { 0 };
+    write_flags(got, from, count, out)
 }
 
-/// Says of the numbers from one on which were received.
-fn mark(got: &Got<'_, W32>, from: u64, flags: &mut [bool])
-    requires { from + length flags.old ≤ 2 ^ 64 }
-    ensures { (parts : Parts) (n : ℕ) → Receives got.now.window.now got.now.peer parts n →
-        flags.new ≡ flags_from (has_part got.now.peer parts) from (length flags.old) }
+/// Writes the elements that say of so many numbers from one on which were received, and gives how
+/// many.
+fn write_flags(got: &Got<'_, W32>, from: u64, count: u64, out: &mut [u8; ELEMENTS]) -> usize
+    requires few { count ≤ WINDOW }
+    requires bound { from + count ≤ 2 ^ 64 }
+    ensures bound { result ≤ WINDOW }
+    ensures good { All IsGood (take result out.new) }
+    ensures elements { (parts : Parts) (n : ℕ) → Receives got.now.window.now got.now.peer parts n →
+        take result out.new ≡ elements_of (flags_from (has_part got.now.peer parts) from count) }
 {
-    for ahead in 0..flags.len() {
-        flags[ahead] = got.window.has(from + ahead as u64);
+    let mut place = Out::new(out);
+    let mut writer = RunWriter::new();
+    for ahead in 0..count {
+        match writer.flag(got.window.has(from + ahead), &mut place) {
+            Ok(()) => {}
+            Err(_) => unreachable!(),
+        }
+    }
+    match writer.end(&mut place) {
+        Ok(()) => place.at(),
+        Err(_) => unreachable!(),
     }
 }
 

@@ -18,6 +18,7 @@ mod laws;
 mod link;
 mod settle;
 
+pub use first::First;
 pub use joined::{first_links_join, pulled_was_given};
 pub use keeps::first_links_keep;
 pub use laws::{first_layout_is_read, one_part_goes_over};

@@ -7,7 +7,7 @@ ghost use Rattle.mt_windows.specs.Sending.{queued};
 ghost use Rattle.mt_windows.specs.SendingView.{limits, queued_of};
 ghost use Rattle.carrier.specs.Due.{IsNextDue};
 ghost use Rattle.carrier.specs.Entries.{Entry, Gave, In, Polled, Pulled, Owed};
-ghost use Rattle.carrier.specs.Law.{Faithful};
+ghost use Rattle.carrier.specs.Law.{Faithful, IsBytes};
 ghost use Rattle.carrier.specs.Sending.{acts};
 ghost use Rattle.carrier.specs.States.{give_answer, written};
 ghost use Rattle.carrier.specs.declared.state.LinkState.TheVariants.{Open, Closed as IsClosed};
@@ -17,7 +17,7 @@ ghost use Rattle.udp1_core.specs.MachineView.{Stands, layout_of, link_layout, co
 
 use crate::first::First;
 use carrier::{Carrier, GiveRefusal, LinkState, Took};
-use link_machine::{Machine, ReceiverConfig, SenderConfig};
+use link_machine::{Machine, ReceiverConfig, SenderConfig, WireLayout};
 use mt_base::NoMemory;
 use std::alloc::Global;
 use std::marker::Model;
@@ -74,6 +74,38 @@ impl Udp1Core {
         let sender = sender_config(own_initial, version);
         let receiver = receiver_config(peer_initial, version);
         self.machine.start(sender, receiver);
+    }
+
+    /// A link of this version, 0x0001 or 0x0002, between ends with these initial numbers, on the
+    /// memory of a machine of any layout. It is as a new one that was given the bytes which were given
+    /// to the machine and not cut into parts. It takes no memory.
+    pub fn on_machine<L: WireLayout>(
+        machine: Machine<L>,
+        own_initial: u32,
+        peer_initial: u32,
+        version: u16,
+    ) -> Udp1Core
+        requires { (version ≡ 0x0001) ⊎ (version ≡ 0x0002) }
+        ensures stands { let waiting = machine.sender.outbox.waiting in
+            IsBytes waiting → Stands result (Start ▷ Gave waiting) }
+        ensures empty { machine.sender.outbox.waiting ≡ [] → Stands result Start }
+        ensures layout { layout_of result ≡ link_layout own_initial peer_initial version }
+        ensures left { left_of result.receiver.inbox ≡ [] }
+        ensures queued { queued_of result.sender.outbox ≡ length machine.sender.outbox.waiting }
+        ensures open { condition_of result ≡ Open }
+    {
+        let sender = sender_config(own_initial, version);
+        let receiver = receiver_config(peer_initial, version);
+        Udp1Core {
+            machine: machine.renewed(sender, receiver),
+        }
+    }
+
+    /// Gives its machine up.
+    pub fn into_machine(self) -> Machine<First>
+        ensures { result ≡ self }
+    {
+        self.machine
     }
 
     /// Makes so many tellings more owed.

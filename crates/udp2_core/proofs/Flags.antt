@@ -1,11 +1,10 @@
 -- The flags that a machine tells.
 use Rattle.std.proofs.Common.{◌≡◌, ℕ, zero, suc, ◌+◌, ◌-◌, ◌<◌, ◌≤◌, ◌&&◌, Bool, true, false, List, [], ◌∷◌, length, max, take, replicate, refl, sym, ap, ap₂, ◌∙◌, arith}
 use Rattle.std.proofs.lemmas.List.{length-replicate, take-replicate}
-use Rattle.coded_vector.specs.Written.{coded_of}
 use Rattle.mt_windows.specs.Noted.{is_seen}
 use Rattle.carrier.specs.Layout.{Upto}
 use Rattle.udp2_packets.specs.Value.{AckTelling}
-use Rattle.udp2_core.specs.SecondLayout.{all_seen, flags_from, low, packet_telling}
+use Rattle.udp2_core.specs.SecondLayout.{all_seen, low, packet_telling}
 
 -- where each of the numbers was seen, all were
 pub all_there : (seen : List ℕ) (from n : ℕ)
@@ -51,9 +50,3 @@ ack_told named number count most delays number_is most_is delays_are =
     omega (arith, most_is, length-replicate (max 1 count) true) in
     ap₂ (λ m ds. AckTelling (record { number = m; received_ts = 0; gap = 0; scale = 0; delays = ds }))
     number_is (delays_are ∙ ap (λ k. replicate k 0) fewer)
-
--- the same flags, of as many numbers
-pub same_flags : (has : ℕ → Bool) (from count size : ℕ) (flags : List Bool) → count ≡ size
-    → flags ≡ flags_from has from count → coded_of flags ≡ coded_of (flags_from has from size)
-same_flags has from count size flags same is =
-    ap coded_of (is ∙ ap (flags_from has from) same)

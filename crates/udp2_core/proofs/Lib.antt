@@ -3,8 +3,10 @@ pub mod ReadBack
 pub mod Sizes
 pub mod IsLayout
 pub mod SecondLinks
+pub mod Wrapping
 pub mod Flags
 pub mod Heads
+pub mod Fed
 pub mod Bodies
 pub mod SecondWireLaw
 pub mod ToldFlags

@@ -1,5 +1,6 @@
 pub mod SecondLayout
 pub mod Exchange
+pub mod Wrapping
 pub mod TellingView
 pub mod ContentsView
 pub mod SettleView

@@ -1,6 +1,6 @@
 //! The text of a datagram up to the bytes of its part.
 
-ghost use Rattle.std.specs.Prelude.{◌≡◌, ◌+◌, ◌-◌, ◌<◌, ◌≤◌, ◌^◌, ◌++◌, ℕ, List, All, Some, length, replicate, take, drop, max, true};
+ghost use Rattle.std.specs.Prelude.{◌≡◌, ◌+◌, ◌-◌, ◌<◌, ◌≤◌, ◌++◌, ℕ, List, All, Some, length, replicate, take, drop, max, true};
 ghost use Rattle.mt_windows.specs.Noted.{is_seen};
 ghost use Rattle.mt_windows.specs.NotedView.{Notes};
 ghost use Rattle.coded_vector.specs.Written.{coded_of};
@@ -12,11 +12,15 @@ ghost use Rattle.udp2_core.specs.TellingView.{IsShort};
 ghost use Rattle.udp2_core.specs.SecondLayout.{all_seen, count_of, flags_from, head_body, last_of, low, made_of, packet_telling, second_wire, telling_of as told_of, telling_where, told_from};
 
 use carrier::WITH_TELLING;
-use coded_vector::write_coded;
+use coded_vector::CodedWriter;
 use link_machine::{Got, Numbers};
-use mt_base::{W16, Width};
+use mt_base::{Out, W16, Width};
 use mt_windows::{PART, TELL};
 use udp2_packets::{Ack2, Body2, Packet2, Telling2, Vector2, write_fields2};
+
+/// Coded bytes of a vector at most: it tells of the last numbers that one telling can cover, and what
+/// is written of n flags has at most a seventh of n + 36 bytes.
+const CODED: usize = (TELL as usize + 36) / 7;
 
 /// Of how many numbers an acknowledgement tells.
 const ALL_SEEN: u64 = 16;
@@ -42,7 +46,7 @@ pub fn write_fields(
         (result ≡ length text) × (out.new ≡ text ++ drop result out.old) }
     ensures rest { drop result out.new ≡ drop result out.old }
 {
-    let mut coded = [0; 78];
+    let mut coded = [0; CODED];
     let telling = telling_where(got, tells, &mut coded);
     let packet = head_packet(telling, above, numbers);
     match write_fields2(&packet, out) {
@@ -52,7 +56,7 @@ pub fn write_fields(
 }
 
 /// What a datagram tells: what was received, or nothing.
-fn telling_where<'a>(got: &Got<'_, W16>, tells: bool, coded: &'a mut [u8; 78]) -> Telling2<'a>
+fn telling_where<'a>(got: &Got<'_, W16>, tells: bool, coded: &'a mut [u8; CODED]) -> Telling2<'a>
     requires { 1 ≤ got.now.peer }
     ensures short { IsShort (telling_of result) }
     ensures told { (seen : List ℕ) → Notes got.now.seen.now seen →
@@ -66,7 +70,7 @@ fn telling_where<'a>(got: &Got<'_, W16>, tells: bool, coded: &'a mut [u8; 78]) -
 
 /// What is told of what was received: an acknowledgement where the last numbers were all seen, else
 /// a vector.
-fn telling<'a>(got: &Got<'_, W16>, coded: &'a mut [u8; 78]) -> Telling2<'a>
+fn telling<'a>(got: &Got<'_, W16>, coded: &'a mut [u8; CODED]) -> Telling2<'a>
     requires { 1 ≤ got.now.peer }
     ensures short { IsShort (telling_of result) }
     ensures told { (seen : List ℕ) → Notes got.now.seen.now seen →
@@ -139,32 +143,25 @@ fn told_from(got: &Got<'_, W16>, last: u64) -> u64
 
 /// Writes the coded bytes that tell which numbers from one on were seen, up to the last one, and
 /// gives how many.
-fn write_flags(got: &Got<'_, W16>, last: u64, from: u64, out: &mut [u8; 78]) -> usize
+fn write_flags(got: &Got<'_, W16>, last: u64, from: u64, out: &mut [u8; CODED]) -> usize
     requires some { 1 ≤ from }
     requires near { last + 1 ≤ from + TELL }
-    ensures bound { result ≤ 78 }
+    ensures bound { result ≤ CODED }
     ensures bytes { All (λ b. b < 256) (take result out.new) }
     ensures coded { (seen : List ℕ) → Notes got.now.seen.now seen →
         take result out.new ≡ coded_of (flags_from (is_seen TELL seen) from (last + 1 - from)) }
 {
-    let count = numbers_from(from, last) as usize;
-    let mut flags = [false; 512];
-    let flags = &mut flags[..count];
-    mark(got, from, flags);
-    match write_coded(flags, out) {
-        Ok(length) => length,
-        Err(_) => unreachable!(),
+    let mut place = Out::new(out);
+    let mut writer = CodedWriter::new();
+    for ahead in 0..numbers_from(from, last) {
+        match writer.flag(got.seen.has(from + ahead), &mut place) {
+            Ok(()) => {}
+            Err(_) => unreachable!(),
+        }
     }
-}
-
-/// Says of the numbers from one on which were seen of late.
-fn mark(got: &Got<'_, W16>, from: u64, flags: &mut [bool])
-    requires { from + length flags.old ≤ 2 ^ 64 }
-    ensures { (seen : List ℕ) → Notes got.now.seen.now seen →
-        flags.new ≡ flags_from (is_seen TELL seen) from (length flags.old) }
-{
-    for ahead in 0..flags.len() {
-        flags[ahead] = got.seen.has(from + ahead as u64);
+    match writer.end(&mut place) {
+        Ok(()) => place.at(),
+        Err(_) => unreachable!(),
     }
 }
 

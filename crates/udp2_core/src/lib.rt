@@ -18,7 +18,8 @@ mod link;
 mod second;
 mod settle;
 
-pub use joined::{pulled_was_given, second_links_join};
+pub use joined::{numbers_wrap, pulled_was_given, second_links_join};
 pub use keeps::second_links_keep;
 pub use laws::{one_part_goes_over, second_layout_is_read};
 pub use link::Udp2Core;
+pub use second::Second;

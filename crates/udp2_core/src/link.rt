@@ -1,13 +1,13 @@
 //! The link.
 
-ghost use Rattle.std.specs.Prelude.{◌≡◌, [], IfOk};
+ghost use Rattle.std.specs.Prelude.{◌≡◌, [], length, IfOk};
 ghost use Rattle.mt_base.specs.Trace.{Trace, Start, ◌▷◌};
 ghost use Rattle.mt_windows.specs.ArrivedView.{left_of};
 ghost use Rattle.mt_windows.specs.Sending.{queued};
 ghost use Rattle.mt_windows.specs.SendingView.{limits, queued_of};
 ghost use Rattle.carrier.specs.Due.{IsNextDue};
-ghost use Rattle.carrier.specs.Entries.{Entry, Owed};
-ghost use Rattle.carrier.specs.Law.{Faithful};
+ghost use Rattle.carrier.specs.Entries.{Entry, Gave, Owed};
+ghost use Rattle.carrier.specs.Law.{Faithful, IsBytes};
 ghost use Rattle.carrier.specs.Sending.{acts};
 ghost use Rattle.carrier.specs.declared.state.LinkState.TheVariants.{Open};
 ghost use Rattle.udp2_core.specs.SecondLayout.{second_layout};
@@ -15,7 +15,7 @@ ghost use Rattle.udp2_core.specs.MachineView.{Stands, condition_of};
 
 use crate::second::Second;
 use carrier::{Carrier, GiveRefusal, LinkState, Took};
-use link_machine::{Machine, ReceiverConfig, SenderConfig};
+use link_machine::{Machine, ReceiverConfig, SenderConfig, WireLayout};
 use mt_base::NoMemory;
 use std::alloc::Global;
 use std::marker::Model;
@@ -63,6 +63,28 @@ impl Udp2Core {
         ensures open { condition_of self.new ≡ Open }
     {
         self.machine.start(SENDER, RECEIVER);
+    }
+
+    /// A link of version 0x0101 on the memory of a machine of any layout. It is as a new one that was
+    /// given the bytes which were given to the machine and not cut into parts. It takes no memory.
+    pub fn on_machine<L: WireLayout>(machine: Machine<L>) -> Udp2Core
+        ensures stands { let waiting = machine.sender.outbox.waiting in
+            IsBytes waiting → Stands result (Start ▷ Gave waiting) }
+        ensures empty { machine.sender.outbox.waiting ≡ [] → Stands result Start }
+        ensures left { left_of result.receiver.inbox ≡ [] }
+        ensures queued { queued_of result.sender.outbox ≡ length machine.sender.outbox.waiting }
+        ensures open { condition_of result ≡ Open }
+    {
+        Udp2Core {
+            machine: machine.renewed(SENDER, RECEIVER),
+        }
+    }
+
+    /// Gives its machine up.
+    pub fn into_machine(self) -> Machine<Second>
+        ensures { result ≡ self }
+    {
+        self.machine
     }
 
     /// Makes so many tellings more owed.
