@@ -9,6 +9,7 @@
 //! one end pulled is the beginning of what the other was given ([`links_join`]).
 #![tactic(auto)]
 
+mod any;
 mod joined;
 mod keeps;
 mod layout;
@@ -18,6 +19,3 @@ pub use joined::{links_join, pulled_was_given};
 pub use keeps::links_keep;
 pub use layout::LinkLayout;
 pub use link::LinkCore;
-
-#[cfg(test)]
-mod tests;

@@ -7,19 +7,22 @@ ghost use Rattle.mt_windows.specs.Sending.{queued};
 ghost use Rattle.mt_windows.specs.SendingView.{limits, queued_of};
 ghost use Rattle.carrier.specs.Due.{IsNextDue};
 ghost use Rattle.carrier.specs.Entries.{Entry, Gave, In, Polled, Pulled, Owed};
-ghost use Rattle.carrier.specs.Law.{Faithful};
+ghost use Rattle.carrier.specs.Law.{Faithful, IsBytes};
 ghost use Rattle.carrier.specs.Sending.{acts};
 ghost use Rattle.carrier.specs.States.{give_answer, written};
 ghost use Rattle.carrier.specs.declared.state.LinkState.TheVariants.{Open, Closed as IsClosed};
 ghost use Rattle.carrier.specs.declared.state.Took.TheVariants.{Ignored};
 ghost use Rattle.carrier.specs.declared.state.Reason.TheVariants as reason;
-ghost use Rattle.link_core.specs.CoreView.{IsVersion, Stands, kind_of, layout_of, link_layout, condition_of};
+ghost use Rattle.link_core.specs.CoreView.{IsAtWork, IsVersion, Stands, core_of, kind_in, kind_of, layout_of, link_layout, machine_in, condition_of};
 
+use crate::any::AnyCore;
 use crate::layout::LinkLayout;
 use carrier::{Carrier, GiveRefusal, LinkState, Took};
+use link_machine::{Machine, WireLayout};
 use mt_base::NoMemory;
 use std::alloc::Global;
 use std::marker::Model;
+use std::mem::replace;
 use udp1_core::Udp1Core;
 use udp2_core::Udp2Core;
 
@@ -27,21 +30,21 @@ use udp2_core::Udp2Core;
 const VERSION_2: u16 = 0x0002;
 
 /// A reliable link of whatever version, open from the start. It has no socket and no clock. It has
-/// memory for a machine of each layout, so that it can be started in any version; one of them is at
-/// work.
+/// the memory of one machine, which goes over to the one of the other layout when it is started in
+/// another version.
 #[derive(Drop)]
 pub struct LinkCore {
-    layout: LinkLayout,
-    first: Udp1Core,
-    second: Udp2Core,
+    core: AnyCore,
 }
 
 impl Model for LinkCore {
-    ghost use Rattle.link_core.specs.CoreView.{Core, machine_by};
+    ghost use Rattle.link_core.specs.CoreView.{Core, IsAtWork, kind_in, machine_in};
 
     ghost Value = { Core };
 
-    ghost view = { λ c. record { kind = c.layout; machine = machine_by c.layout c.first c.second } };
+    ghost view = { λ c. record { kind = kind_in c.core; machine = machine_in c.core } };
+
+    ghost invariant = { λ c. IsAtWork c.core };
 }
 
 impl LinkCore {
@@ -61,14 +64,13 @@ impl LinkCore {
         ensures queued { IfOk result (λ c. queued_of c.machine.sender.outbox ≡ 0) }
         ensures open { IfOk result (λ c. condition_of c ≡ Open) }
     {
-        let layout = LinkLayout::of_version(version);
-        let first = Udp1Core::new(alloc, own_initial, peer_initial, version.min(VERSION_2))?;
-        let second = Udp2Core::new(alloc)?;
-        Ok(LinkCore {
-            layout,
-            first,
-            second,
-        })
+        let core = match LinkLayout::of_version(version) {
+            LinkLayout::First => {
+                AnyCore::First(Udp1Core::new(alloc, own_initial, peer_initial, version)?)
+            }
+            LinkLayout::Second => AnyCore::Second(Udp2Core::new(alloc)?),
+        };
+        Ok(LinkCore { core })
     }
 
     /// Forgets everything, and is as a new link of this version, 0x0001, 0x0002 or 0x0101. It takes
@@ -82,11 +84,44 @@ impl LinkCore {
         ensures queued { queued_of self.new.machine.sender.outbox ≡ 0 }
         ensures open { condition_of self.new ≡ Open }
     {
-        self.layout = LinkLayout::of_version(version);
-        match self.layout {
-            LinkLayout::First => self.first.start(own_initial, peer_initial, version),
-            LinkLayout::Second => self.second.start(),
+        self.forget();
+        self.start_with_queue(own_initial, peer_initial, version);
+    }
+
+    /// Forgets what waits to be cut, and all else that was given and received.
+    fn forget(&mut self)
+        ensures { self.new.machine.sender.outbox.waiting ≡ [] }
+    {
+        match &mut self.core {
+            AnyCore::First(core) => core.start(0, 0, VERSION_2),
+            AnyCore::Second(core) => core.start(),
+            AnyCore::Moved => unreachable!(),
         }
+    }
+
+    /// Starts as a new link of this version, 0x0001, 0x0002 or 0x0101, that was given the bytes which
+    /// were given to this one and not cut into parts yet. All else is forgotten. It takes no memory.
+    pub fn start_with_queue(&mut self, own_initial: u32, peer_initial: u32, version: u16)
+        requires { IsVersion version }
+        ensures stands { let waiting = self.old.machine.sender.outbox.waiting in
+            IsBytes waiting → Stands self.new (Start ▷ Gave waiting) }
+        ensures empty { self.old.machine.sender.outbox.waiting ≡ [] → Stands self.new Start }
+        ensures layout { layout_of self.new ≡ link_layout own_initial peer_initial version }
+        ensures kind { self.new.kind ≡ kind_of version }
+        ensures left { left_of self.new.machine.receiver.inbox ≡ [] }
+        ensures queued { queued_of self.new.machine.sender.outbox ≡
+            length self.old.machine.sender.outbox.waiting }
+        ensures open { condition_of self.new ≡ Open }
+    {
+        self.core = match replace(&mut self.core, AnyCore::Moved) {
+            AnyCore::First(core) => {
+                started(core.into_machine(), own_initial, peer_initial, version)
+            }
+            AnyCore::Second(core) => {
+                started(core.into_machine(), own_initial, peer_initial, version)
+            }
+            AnyCore::Moved => unreachable!(),
+        };
     }
 
     /// Makes so many tellings more owed.
@@ -100,10 +135,42 @@ impl LinkCore {
             queued_of self.old.machine.sender.outbox }
         ensures state { condition_of self.new ≡ condition_of self.old }
     {
-        match self.layout {
-            LinkLayout::First => self.first.owe(count),
-            LinkLayout::Second => self.second.owe(count),
+        match &mut self.core {
+            AnyCore::First(core) => core.owe(count),
+            AnyCore::Second(core) => core.owe(count),
+            AnyCore::Moved => unreachable!(),
         }
+    }
+}
+
+/// A link of this version on the memory of a machine of any layout. It is as a new one that was given
+/// the bytes which were given to the machine and not cut into parts.
+fn started<L: WireLayout>(
+    machine: Machine<L>,
+    own_initial: u32,
+    peer_initial: u32,
+    version: u16,
+) -> AnyCore
+    requires { IsVersion version }
+    ensures stands { let waiting = machine.sender.outbox.waiting in
+        IsBytes waiting → Stands (core_of result) (Start ▷ Gave waiting) }
+    ensures empty { machine.sender.outbox.waiting ≡ [] → Stands (core_of result) Start }
+    ensures layout { layout_of (core_of result) ≡ link_layout own_initial peer_initial version }
+    ensures kind { kind_in result ≡ kind_of version }
+    ensures left { left_of (machine_in result).receiver.inbox ≡ [] }
+    ensures queued { queued_of (machine_in result).sender.outbox ≡
+        length machine.sender.outbox.waiting }
+    ensures open { condition_of (core_of result) ≡ Open }
+    ensures works { IsAtWork result }
+{
+    match LinkLayout::of_version(version) {
+        LinkLayout::First => AnyCore::First(Udp1Core::on_machine(
+            machine,
+            own_initial,
+            peer_initial,
+            version,
+        )),
+        LinkLayout::Second => AnyCore::Second(Udp2Core::on_machine(machine)),
     }
 }
 
@@ -137,9 +204,10 @@ impl Carrier for LinkCore {
         ensures layout { layout_of self.new ≡ layout_of self.old }
         ensures kind { self.new.kind ≡ self.old.kind }
     {
-        match self.layout {
-            LinkLayout::First => self.first.input(now, datagram),
-            LinkLayout::Second => self.second.input(now, datagram),
+        match &mut self.core {
+            AnyCore::First(core) => core.input(now, datagram),
+            AnyCore::Second(core) => core.input(now, datagram),
+            AnyCore::Moved => unreachable!(),
         }
     }
 
@@ -160,9 +228,10 @@ impl Carrier for LinkCore {
         ensures layout { layout_of self.new ≡ layout_of self.old }
         ensures kind { self.new.kind ≡ self.old.kind }
     {
-        match self.layout {
-            LinkLayout::First => self.first.poll(now, out),
-            LinkLayout::Second => self.second.poll(now, out),
+        match &mut self.core {
+            AnyCore::First(core) => core.poll(now, out),
+            AnyCore::Second(core) => core.poll(now, out),
+            AnyCore::Moved => unreachable!(),
         }
     }
 
@@ -182,9 +251,10 @@ impl Carrier for LinkCore {
         ensures layout { layout_of self.new ≡ layout_of self.old }
         ensures kind { self.new.kind ≡ self.old.kind }
     {
-        match self.layout {
-            LinkLayout::First => self.first.give(bytes),
-            LinkLayout::Second => self.second.give(bytes),
+        match &mut self.core {
+            AnyCore::First(core) => core.give(bytes),
+            AnyCore::Second(core) => core.give(bytes),
+            AnyCore::Moved => unreachable!(),
         }
     }
 
@@ -206,9 +276,10 @@ impl Carrier for LinkCore {
         ensures layout { layout_of self.new ≡ layout_of self.old }
         ensures kind { self.new.kind ≡ self.old.kind }
     {
-        match self.layout {
-            LinkLayout::First => self.first.pull(out),
-            LinkLayout::Second => self.second.pull(out),
+        match &mut self.core {
+            AnyCore::First(core) => core.pull(out),
+            AnyCore::Second(core) => core.pull(out),
+            AnyCore::Moved => unreachable!(),
         }
     }
 
@@ -217,23 +288,26 @@ impl Carrier for LinkCore {
         ensures history { (t : Trace Entry) → Stands self.now t →
             result ≡ queued limits (acts (layout_of self.now) t) }
     {
-        match self.layout {
-            LinkLayout::First => self.first.queued(),
-            LinkLayout::Second => self.second.queued(),
+        match &self.core {
+            AnyCore::First(core) => core.queued(),
+            AnyCore::Second(core) => core.queued(),
+            AnyCore::Moved => unreachable!(),
         }
     }
 
     fn next_due(&self) -> Option<u64> {
-        match self.layout {
-            LinkLayout::First => self.first.next_due(),
-            LinkLayout::Second => self.second.next_due(),
+        match &self.core {
+            AnyCore::First(core) => core.next_due(),
+            AnyCore::Second(core) => core.next_due(),
+            AnyCore::Moved => unreachable!(),
         }
     }
 
     fn state(&self) -> LinkState {
-        match self.layout {
-            LinkLayout::First => self.first.state(),
-            LinkLayout::Second => self.second.state(),
+        match &self.core {
+            AnyCore::First(core) => core.state(),
+            AnyCore::Second(core) => core.state(),
+            AnyCore::Moved => unreachable!(),
         }
     }
 

@@ -1,5 +1,6 @@
 pub mod Openings
 pub mod OpeningPackets
+pub mod Early
 pub mod Heard
 pub mod Agreeing
 pub mod Staying

@@ -25,7 +25,7 @@ use Rattle.udp_open.specs.declared.timer.Timer.{Timer}
 use Rattle.udp_open.specs.Agreeing.{is_syn, shows_syn, is_opening}
 use Rattle.udp_open.specs.Handshake.{shown, packet_or, hears, agreed, agreed_by, owed, owed_by, timer, timer_by, is_asking, is_time, started}
 use Rattle.udp_open.specs.LinkTrace.{has_syn, is_of_opening, is_syn_copy, machine_layout, begins, begins_by, reaches, tells, with_entries, machine, tellings, KeepsMachine, Answers, LinkFaithful}
-use Rattle.udp_open.specs.LinkView.{Link, StandsBy, StandsLink}
+use Rattle.udp_open.specs.LinkView.{Link, StandsBy, StandsLink, gives}
 use Rattle.udp_open.specs.OpeningView.{Handshake, Follows}
 use Rattle.udp_open.proofs.Heard.{Deaf, deaf, deaf_same}
 use Rattle.udp_open.proofs.Staying.{agreed_stays}
@@ -278,7 +278,7 @@ before l t a is h =
 pub waits : (l : Link) (s : OpenSettings) (t : Trace Entry) (e : Entry) → (l.opening).settings ≡ s
     → Follows l.opening (t ▷ e) → agreed s (t ▷ e) ≡ None
     → Answers s t e → LinkFaithful s t
-    → l.early ≡ given (t ▷ e) → length (given (t ▷ e)) ≤ QUEUE → IsBytes (given (t ▷ e))
+    → Stands l.core (gives (t ▷ e)) → length (given (t ▷ e)) ≤ QUEUE → IsBytes (given (t ▷ e))
     → StandsLink l (t ▷ e)
 waits l s t e same follows is answers before early short good =
     let kept : KeepsMachine s (agreed s (t ▷ e)) (t ▷ e) = subst (λ o. KeepsMachine s o (t ▷ e)) (sym is) (short, good) in

@@ -1,10 +1,9 @@
 -- What each call does to the relation between a link and its trace.
-use Rattle.std.proofs.Common.{◌≡◌, ℕ, ◌-◌, ◌<◌, ◌≤◌, Bool, true, false, not, ◌&&◌, ◌||◌, nat_lt, max, List, [], ◌∷◌, ◌++◌, length, if◌then◌else◌, Option, Some, None, option_map, refl, sym, ap, ◌∙◌, subst, arith}
+use Rattle.std.proofs.Common.{◌≡◌, ℕ, ◌-◌, ◌<◌, ◌≤◌, Bool, true, false, not, ◌&&◌, ◌||◌, nat_lt, max, List, [], ◌∷◌, length, if◌then◌else◌, Option, Some, None, option_map, refl, sym, ap, ◌∙◌, subst, arith}
 use Rattle.std.specs.Option.{IsSome}
 use Rattle.std.proofs.lemmas.Bool.{ltb-false}
 use Rattle.std.proofs.lemmas.List.Elements.{All-append}
 use Rattle.mt_base.specs.Trace.{Trace, Start, ◌▷◌}
-use Rattle.mt_windows.specs.declared.limits.TheConstants.{QUEUE}
 use Rattle.carrier.specs.declared.state.Reason.TheVariants as reason
 use Rattle.carrier.specs.declared.state.Took.{Took}
 use Rattle.carrier.specs.declared.state.Took.TheVariants.{Used, Ignored}
@@ -26,8 +25,9 @@ use Rattle.udp_open.specs.declared.agreement.Agreement.{Agreement}
 use Rattle.udp_open.specs.declared.opening.OpenEnd.TheVariants.{Waiting, Agreed}
 use Rattle.udp_open.specs.Handshake.{agreed, opening_answered, opening_due, owed}
 use Rattle.udp_open.specs.LinkTrace.{is_for_machine, is_low, is_no_packet, is_of_opening, machine_layout, begins, copies, with_entries, machine, answered_by, due_by}
-use Rattle.udp_open.specs.LinkView.{Link, StandsBy, StandsLink, is_closed_state}
+use Rattle.udp_open.specs.LinkView.{Link, StandsBy, StandsLink, gives, is_closed_state}
 use Rattle.udp_open.specs.OpeningView.{Handshake, Follows, AnswersFirst, SendsFirst, end_of}
+use Rattle.udp_open.proofs.Early.{within}
 use Rattle.udp_open.proofs.Second.{low_refused, no_packet}
 use Rattle.udp_open.proofs.LinkLemmas.{machine_begins, machine_open, keeps_early, passes_open, ignores_in, passes_poll, opened, before, waits}
 
@@ -64,16 +64,17 @@ none_at (Some a) h = cc
 -- ---- while a link opens
 
 -- bytes that are given wait
-pub keeps : (l : Link) (t : Trace Entry) (bytes early : List ℕ) → (l.opening).agreement ≡ None → early ≡ l.early ++ bytes
-    → length early ≤ QUEUE → IsBytes bytes → StandsLink l t → StandsLink (record l { early = early }) (t ▷ Gave bytes)
-keeps l t bytes early none is short good h =
+pub keeps : (l : Link) (m : Core) (t : Trace Entry) (bytes : List ℕ) → (l.opening).agreement ≡ None
+    → ((u : Trace Entry) → Stands l.core u → Stands m (u ▷ Gave bytes))
+    → IsBytes bytes → StandsLink l t → StandsLink (record l { core = m }) (t ▷ Gave bytes)
+keeps l m t bytes none step good h =
     let f = h.follows in
     let at : agreed (l.opening).settings t ≡ None = sym f.agreement_is ∙ none in
-    let was : l.early ≡ given t = subst (λ o. StandsBy l t o) at h.machine_is in
-    let all : early ≡ given t ++ bytes = is ∙ ap (λ x. x ++ bytes) was in
-    waits (record l { early = early }) (l.opening).settings t (Gave bytes) refl
+    let was : Stands l.core (gives t) = subst (λ o. StandsBy l t o) at h.machine_is in
+    let is : Stands m (gives (t ▷ Gave bytes)) = step (gives t) was in
+    waits (record l { core = m }) (l.opening).settings t (Gave bytes) refl
     (record { moment_is = f.moment_is; agreement_is = f.agreement_is; owed_is = f.owed_is; timer_is = f.timer_is })
-    at tt h.faithful all (subst (λ x. length x ≤ QUEUE) all short)
+    at tt h.faithful is (within m (t ▷ Gave bytes) is)
     (All-append (λ b. b < 256) (given t) bytes (keeps_early (l.opening).settings t at h.faithful).1 good)
 
 -- nothing is pulled
@@ -117,7 +118,7 @@ hears_waiting l o t now d took none same ends follows is h =
 pub hears_agreeing : (l n : Link) (t : Trace Entry) (now : ℕ) (d : List ℕ) (took : Took) (version peer : ℕ) → (l.opening).agreement ≡ None
     → (n.opening).settings ≡ (l.opening).settings → end_of (n.opening).agreement ≡ Agreed version peer
     → Follows n.opening (t ▷ In now d took) → took ≡ opening_answered (l.opening).settings t d
-    → Stands n.core (with_entries Start (begins (l.opening).settings.role l.early))
+    → (Stands l.core (gives t) → IsBytes (given t) → Stands n.core (with_entries Start (begins (l.opening).settings.role (given t))))
     → layout_of n.core ≡ link_layout (l.opening).settings.initial peer version
     → StandsLink l t → StandsLink n (t ▷ In now d took)
 hears_agreeing l n t now d took version peer none same ends follows is stands layout h = by_agreement (n.opening).agreement refl ends
@@ -135,13 +136,13 @@ hears_agreeing l n t now d took version peer none same ends follows is stands la
     by_agreement None some ends = cc
     by_agreement (Some a) some ends =
         let after : agreed s (t ▷ e) ≡ Some a = ap (λ x. agreed x (t ▷ e)) (sym same) ∙ sym follows.agreement_is ∙ some in
-        let trace : with_entries Start (begins s.role l.early) ≡ machine s (t ▷ e) =
-        ap (λ x. with_entries Start (begins s.role x)) (subst (λ o. StandsBy l t o) at h.machine_is) ∙ sym (machine_begins s t e a at after) in
+        let trace : with_entries Start (begins s.role (given t)) ≡ machine s (t ▷ e) = sym (machine_begins s t e a at after) in
+        let begun = stands (subst (λ o. StandsBy l t o) at h.machine_is) (keeps_early s t at h.faithful).1 in
         let version_is : version ≡ a.version = cc in
         let peer_is : peer ≡ a.peer_initial = cc in
         opened n s t e a same follows after
         (subst (λ x. took ≡ answered_by s t x d) (sym at) is) h.faithful
-        (subst (λ x. Stands n.core x) trace stands)
+        (subst (λ x. Stands n.core x) trace begun)
         (layout ∙ ap (λ x. link_layout s.initial x version) peer_is ∙ ap (λ x. link_layout s.initial a.peer_initial x) version_is)
 
 -- ---- the machine of an open link

@@ -4,6 +4,7 @@ use Rattle.std.proofs.Math.Seq.{drop-nil}
 use Rattle.std.proofs.lemmas.Bool.{and_parts, leb-true, ltb-true}
 use Rattle.mt_base.specs.Trace.{Trace, Start, ◌▷◌}
 use Rattle.mt_windows.specs.Arrived.{passed}
+use Rattle.mt_windows.specs.Sending.{queued}
 use Rattle.mt_windows.specs.SendingView.{limits}
 use Rattle.mt_windows.proofs.Order.{receives_left}
 use Rattle.mt_windows.proofs.Pieces.{all_bytes}
@@ -15,7 +16,7 @@ use Rattle.carrier.specs.Sending.{acts, timer as machine_timer}
 use Rattle.carrier.specs.Law.{Faithful}
 use Rattle.carrier.proofs.links.Carries.{all_given}
 use Rattle.carrier.proofs.links.Closes.{expiries_bound}
-use Rattle.link_core.specs.CoreView.{layout_of}
+use Rattle.link_core.specs.CoreView.{Stands, layout_of}
 use Rattle.link_core.proofs.Links.{expiries_is, has_room}
 use Rattle.udp_open.specs.declared.settings.OpenSettings.{OpenSettings}
 use Rattle.udp_open.specs.declared.agreement.Agreement.{Agreement}
@@ -23,8 +24,9 @@ use Rattle.udp_open.specs.declared.timer.Timer.{Timer}
 use Rattle.carrier.specs.declared.state.Reason.{Reason}
 use Rattle.udp_open.specs.Handshake.{agreed, expiry, hears, is_asking, is_time, row, shown, started, timer, timer_by}
 use Rattle.udp_open.specs.LinkTrace.{machine, machine_layout, LinkFaithful}
-use Rattle.udp_open.specs.LinkView.{Link, StandsBy, StandsLink, condition_by, left_by, condition_in, left_in}
+use Rattle.udp_open.specs.LinkView.{Link, StandsBy, StandsLink, gives, condition_by, left_by, condition_in, left_in}
 use Rattle.udp_open.specs.OfTrace.{left_after, passed_by, queued_after, queued_by, settled_after, settled_by, state_after, state_by}
+use Rattle.udp_open.proofs.Early.{queued_all}
 use Rattle.udp_open.proofs.links.Machines.{given_same, machine_faithful, pulled_same}
 
 -- ---- what is left
@@ -99,6 +101,19 @@ state_is l t h = ap (condition_by l) (h.follows).agreement_is ∙ by_agreement (
         ∙ ap (λ n. if nat_lt n (machine_timer layout m).expiries then Closed 17 else Open) (sym same)
 
 -- ---- what is queued
+
+-- what its machine has queued is what the link has
+pub queued_is : (l : Link) (t : Trace Entry) (n : ℕ) → ((u : Trace Entry) → Stands l.core u → n ≡ queued limits (acts (layout_of l.core) u))
+    → StandsLink l t → n ≡ queued_after (l.opening).settings t
+queued_is l t n is h = by_agreement (agreed s t) h.machine_is
+  where
+    s : OpenSettings
+    s = (l.opening).settings
+
+    by_agreement : (o : Option Agreement) → StandsBy l t o → n ≡ queued_by s t o
+    by_agreement None stands = is (gives t) stands ∙ queued_all (layout_of l.core) t
+    by_agreement (Some a) stands =
+        is (machine s t) stands.0 ∙ ap (λ layout. queued limits (acts layout (machine s t))) stands.1
 
 one_agreement : (a b : Agreement) → ◌≡◌ {A = Option Agreement} (Some a) (Some b) → a ≡ b
 one_agreement a b h = cc

@@ -1,12 +1,11 @@
 -- What a link stands for.
-use Rattle.std.specs.Prelude.{◌≡◌, ℕ, ◌≤◌, ◌<◌, ◌&&◌, ◌||◌, Bool, true, false, not, max, is_some, nat_lt, List, [], length, if◌then◌else◌, Option, Some, None}
-use Rattle.mt_base.specs.Trace.{Trace}
+use Rattle.std.specs.Prelude.{◌≡◌, ℕ, ◌≤◌, ◌<◌, ◌&&◌, ◌||◌, Bool, true, false, not, max, is_some, nat_lt, List, [], if◌then◌else◌, Option, Some, None}
+use Rattle.mt_base.specs.Trace.{Trace, Start, ◌▷◌}
 use Rattle.mt_windows.specs.ArrivedView.{left_of}
-use Rattle.mt_windows.specs.declared.limits.TheConstants.{QUEUE}
 use Rattle.mt_windows.specs.SendingView.{queued_of}
 use Rattle.carrier.specs.declared.state.LinkState.{LinkState}
 use Rattle.carrier.specs.declared.state.LinkState.TheVariants.{Opening, Open, Closed}
-use Rattle.carrier.specs.Entries.{Entry, given, moment}
+use Rattle.carrier.specs.Entries.{Entry, Gave, moment}
 use Rattle.link_core.specs.CoreView.{Core, Stands, condition_of, layout_of}
 use Rattle.udp_open.specs.declared.agreement.Agreement.{Agreement}
 use Rattle.udp_open.specs.Handshake.{agreed, row, owed, closes}
@@ -15,16 +14,22 @@ use Rattle.udp_open.specs.LinkTrace.{LinkFaithful, machine, machine_layout, link
 use Rattle.udp_open.specs.declared.settings.OpenSettings.{OpenSettings}
 use Rattle.carrier.specs.Due.{closes as machine_closes}
 
--- what is kept: the opening, the bytes that were given while it opened, and the machine
+-- what is kept: the opening, and the machine, in whose queue the bytes wait that are given while it
+-- opens
 pub record Link : Type 0 where
   pub opening : Handshake
-  pub early : List ℕ
   pub core : Core
 
--- While it opens the bytes given wait; once the ends agreed the machine stands for its trace, under
--- the layout that was agreed on.
+-- the bytes given, and no other call
+abbrev pub gives : Trace Entry → Trace Entry
+gives Start = Start
+gives (t ▷ Gave bytes) = gives t ▷ Gave bytes
+gives (t ▷ e) = gives t
+
+-- While it opens the machine is given what the link is given, and nothing else; once the ends agreed it
+-- stands for its trace, under the layout that was agreed on.
 abbrev pub StandsBy : Link → Trace Entry → Option Agreement → Type 0
-StandsBy l t None = l.early ≡ given t
+StandsBy l t None = Stands l.core (gives t)
 StandsBy l t (Some a) =
     Stands l.core (machine (l.opening).settings t) × (layout_of l.core ≡ machine_layout (l.opening).settings a)
 
@@ -34,9 +39,9 @@ pub record StandsLink (l : Link) (t : Trace Entry) : Type 0 where
   pub machine_is : StandsBy l t (agreed (l.opening).settings t)
   pub faithful : LinkFaithful (l.opening).settings t
 
--- what is true of every link
+-- what is true of every link: the machine is not closed while it opens
 abbrev pub IsSoundLink : Link → Type 0
-IsSoundLink l = length l.early ≤ QUEUE
+IsSoundLink l = (l.opening).agreement ≡ None → condition_of l.core ≡ Open
 
 -- ---- by what was agreed on
 
@@ -62,12 +67,8 @@ abbrev pub left_in : Link → List ℕ
 left_in l = left_by l (l.opening).agreement
 
 -- the bytes given that are not known to have come
-abbrev pub load_by : Link → Option Agreement → ℕ
-load_by l None = length l.early
-load_by l (Some a) = queued_of ((l.core).machine.sender).outbox
-
 abbrev pub load_in : Link → ℕ
-load_in l = load_by l (l.opening).agreement
+load_in l = queued_of ((l.core).machine.sender).outbox
 
 -- ---- when
 

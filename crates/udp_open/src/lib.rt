@@ -31,6 +31,3 @@ pub use laws::{
 pub use link::UdpLink;
 pub use opening::{OpenEnd, Opening};
 pub use settings::{OpenSettings, hash_cookie};
-
-#[cfg(test)]
-mod tests;

@@ -6,22 +6,22 @@ ghost use Rattle.mt_base.specs.declared.kinds.Role.TheVariants.{Client as IsClie
 ghost use Rattle.mt_base.specs.Trace.{Trace, Start, ◌▷◌};
 ghost use Rattle.mt_windows.specs.ArrivedView.{left_of};
 ghost use Rattle.mt_windows.specs.SendingView.{queued_of};
-ghost use Rattle.carrier.specs.declared.state.LinkState.TheVariants.{Closed as IsClosed};
+ghost use Rattle.carrier.specs.declared.state.LinkState.TheVariants.{Open, Closed as IsClosed};
 ghost use Rattle.carrier.specs.declared.state.Took.TheVariants.{Ignored};
 ghost use Rattle.carrier.specs.declared.state.Reason.TheVariants as reason;
-ghost use Rattle.carrier.specs.Entries.{Entry, Gave, In, Polled, Owed};
+ghost use Rattle.carrier.specs.Entries.{Entry, Gave, In, Polled, Owed, given};
+ghost use Rattle.carrier.specs.Law.{IsBytes};
 ghost use Rattle.link_core.specs.CoreView.{Stands, layout_of, link_layout, condition_of};
 ghost use Rattle.udp_open.specs.OpeningView.{IsOffered, end_of};
 ghost use Rattle.udp_open.specs.LinkTrace.{LinkFaithful, begins, with_entries, is_of_opening, tellings};
 ghost use Rattle.udp_open.specs.OfTrace.{queued_after};
-ghost use Rattle.udp_open.specs.LinkView.{StandsLink, condition_in, left_in, load_in, IsNextDueIn, is_closed_state};
+ghost use Rattle.udp_open.specs.LinkView.{StandsLink, gives, condition_in, left_in, load_in, IsNextDueIn, is_closed_state};
 
 use crate::opening::{OpenEnd, Opening};
 use crate::settings::OpenSettings;
 use carrier::{Carrier, GiveRefusal, LinkState, Reason, Refusal2, Took};
 use link_core::LinkCore;
 use mt_base::{NoMemory, Role};
-use mt_windows::QUEUE;
 use std::alloc::Global;
 use std::marker::Model;
 
@@ -34,21 +34,17 @@ const EXPIRIES: u32 = 16;
 #[derive(Drop)]
 pub struct UdpLink {
     opening: Opening,
-    early: Vec<u8>,
     core: LinkCore,
 }
 
 impl Model for UdpLink {
-    ghost use Rattle.std.specs.Prelude.{◌≤◌};
-    ghost use Rattle.std.specs.Vec.{vec_capacity};
-    ghost use Rattle.mt_windows.specs.declared.limits.TheConstants.{QUEUE};
     ghost use Rattle.udp_open.specs.LinkView.{Link, IsSoundLink};
 
     ghost Value = { Link };
 
-    ghost view = { λ l. record { opening = l.opening; early = l.early.items; core = l.core } };
+    ghost view = { λ l. record { opening = l.opening; core = l.core } };
 
-    ghost invariant = { λ l. record { sound : IsSoundLink (record { opening = l.opening; early = l.early.items; core = l.core }); room : QUEUE ≤ vec_capacity l.early } };
+    ghost invariant = { λ l. IsSoundLink (record { opening = l.opening; core = l.core }) };
 }
 
 impl UdpLink {
@@ -60,33 +56,27 @@ impl UdpLink {
         ensures left { IfOk result (λ l. left_in l ≡ []) }
         ensures load { IfOk result (λ l. load_in l ≡ 0) }
     {
-        let early = Vec::with_capacity(alloc, QUEUE)?;
         let core = LinkCore::new(alloc, 0, 0, settings.version)?;
         Ok(UdpLink {
             opening: Opening::new(settings),
-            early,
             core,
         })
     }
 
-    /// Starts the machine, and hands it the bytes that were given while the link opened.
+    /// Starts the machine in the version that was agreed on, with the bytes that were given while the
+    /// link opened.
     fn begin(&mut self, version: u16, peer_initial: u32)
         requires { IsOffered version }
-        ensures stands { Stands self.new.core (with_entries Start (begins self.old.opening.settings.role self.old.early)) }
+        ensures stands { (t : Trace Entry) → Stands self.old.core (gives t) → IsBytes (given t) →
+            Stands self.new.core (with_entries Start (begins self.old.opening.settings.role (given t))) }
         ensures layout { layout_of self.new.core ≡ link_layout self.old.opening.settings.initial peer_initial version }
         ensures left { left_of self.new.core.machine.receiver.inbox ≡ [] }
-        ensures queued { queued_of self.new.core.machine.sender.outbox ≤ length self.old.early }
-        ensures open { (e : ℕ) → condition_of self.new.core ≡ IsClosed e → ⊥ }
-        ensures early { self.new.early ≡ [] }
+        ensures queued { queued_of self.new.core.machine.sender.outbox ≤ queued_of self.old.core.machine.sender.outbox }
+        ensures open { condition_of self.new.core ≡ Open }
         ensures opening { self.new.opening ≡ self.old.opening }
     {
         self.core
-            .start(self.opening.initial(), peer_initial, version);
-        match self.core.give(&self.early) {
-            Ok(()) => {}
-            Err(_) => unreachable!(),
-        }
-        self.early.clear();
+            .start_with_queue(self.opening.initial(), peer_initial, version);
         self.owe_tellings();
     }
 
@@ -99,7 +89,6 @@ impl UdpLink {
         ensures queued { queued_of self.new.core.machine.sender.outbox ≡ queued_of self.old.core.machine.sender.outbox }
         ensures state { condition_of self.new.core ≡ condition_of self.old.core }
         ensures opening { self.new.opening ≡ self.old.opening }
-        ensures early { self.new.early ≡ self.old.early }
     {
         match self.opening.role() {
             Role::Client => self.core.owe(2),
@@ -194,21 +183,15 @@ impl UdpLink {
         requires opens { self.old.opening.agreement ≡ None }
         ensures answer { result ≡ give_answer (condition_in self.old) (load_in self.old) (length bytes.now) }
         ensures trace { OnOk result ((t : Trace Entry) → StandsLink self.old t → StandsLink self.new (t ▷ Gave bytes.now)) }
-        ensures kept { OnOk result (self.new ≡ record self.old { early = self.old.early ++ bytes.now }) }
+        ensures settings { self.new.opening ≡ self.old.opening }
+        ensures load { OnOk result (load_in self.new ≡ load_in self.old + length bytes.now) }
         ensures unchanged { OnErr result (self.new ≡ self.old) }
     {
         let expiries = self.opening.expiries();
         if expiries > EXPIRIES {
             return Err(GiveRefusal::Closed { expiries });
         }
-        let queued = self.early.len();
-        if queued + bytes.len() > QUEUE {
-            return Err(GiveRefusal::Full { queued });
-        }
-        match self.early.extend_from_slice(bytes) {
-            Ok(()) => Ok(()),
-            Err(_) => unreachable!(),
-        }
+        self.core.give(bytes)
     }
 
     /// What the link is while it opens.
@@ -293,10 +276,7 @@ impl Carrier for UdpLink {
         ensures value { result ≡ load_in self.now }
         ensures history { (t : Trace Entry) → StandsLink self.now t → result ≡ queued_after self.now.opening.settings t }
     {
-        match self.opening.end() {
-            OpenEnd::Waiting => self.early.len(),
-            OpenEnd::Agreed { .. } => self.core.queued(),
-        }
+        self.core.queued()
     }
 
     fn next_due(&self) -> Option<u64> {

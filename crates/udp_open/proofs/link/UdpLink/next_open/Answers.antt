@@ -9,7 +9,7 @@ use Rattle.udp_open.proofs.link.UdpLink.next_open.Goals as goal
 pub returns-then-owes : goal.returns-then-owes
 returns-then-owes c t h =
     let i = c.self.inside in
-    let l : Link = record { opening = i.opening; early = i.early.items; core = i.core } in
+    let l : Link = record { opening = i.opening; core = i.core } in
     let now = subst (λ (l : Link). StandsLink l t) (sym c.self.view_is) h in
     let some = subst (λ (l : Link). IsSome (l.opening).agreement) (sym c.self.view_is) c.requires in
     let going = subst (λ (l : Link). is_closed_state (condition_of l.core) ≡ false) (sym c.self.view_is) (sym c.is_closed.ensures ∙ c.if-is_closed.false) in
@@ -19,7 +19,7 @@ returns-then-owes c t h =
 pub returns-in-Some : goal.returns-in-Some
 returns-in-Some c t h =
     let i = c.self.inside in
-    let l : Link = record { opening = i.opening; early = i.early.items; core = i.core } in
+    let l : Link = record { opening = i.opening; core = i.core } in
     let now = subst (λ (l : Link). StandsLink l t) (sym c.self.view_is) h in
     let some = subst (λ (l : Link). IsSome (l.opening).agreement) (sym c.self.view_is) c.requires in
     let going = subst (λ (l : Link). is_closed_state (condition_of l.core) ≡ false) (sym c.self.view_is) (sym c.is_closed.ensures ∙ c.if-is_closed.false) in
@@ -32,7 +32,7 @@ returns-in-Some c t h =
 pub returns-in-None : goal.returns-in-None
 returns-in-None c t h =
     let i = c.self.inside in
-    let l : Link = record { opening = i.opening; early = i.early.items; core = i.core } in
+    let l : Link = record { opening = i.opening; core = i.core } in
     let now = subst (λ (l : Link). StandsLink l t) (sym c.self.view_is) h in
     let some = subst (λ (l : Link). IsSome (l.opening).agreement) (sym c.self.view_is) c.requires in
     let going = subst (λ (l : Link). is_closed_state (condition_of l.core) ≡ false) (sym c.self.view_is) (sym c.is_closed.ensures ∙ c.if-is_closed.false) in

@@ -6,7 +6,7 @@ use Rattle.udp_open.proofs.link.UdpLinkCarrier.poll.Goals as goal
 pub returns-in-Waiting-clause-trace : goal.returns-in-Waiting-clause-trace
 returns-in-Waiting-clause-trace c t h =
     let i = c.self.inside in
-    let l : Link = record { opening = i.opening; early = i.early.items; core = i.core } in
+    let l : Link = record { opening = i.opening; core = i.core } in
     let now = subst (λ (l : Link). StandsLink l t) (sym c.self.view_is) h in
     let x = c.poll.ensures in
     let out = option_map (λ n. take n c.poll.new.out) c.poll.result in
