@@ -11,11 +11,15 @@ ghost use Rattle.udp1_core.specs.FirstLayout.{first_wire, flags_from, low, told_
 ghost use Rattle.lossy_mode.specs.LossyView.{both_numbers};
 ghost use Rattle.lossy_mode.specs.Thin.{last_number, telling_of};
 
-use ack_vector::write_runs;
+use ack_vector::RunWriter;
 use carrier::WITH_TELLING;
-use mt_base::{W32, Width};
+use mt_base::{Out, W32, Width};
 use mt_windows::{PART, Seen, TELL, WINDOW};
 use udp1_packets::{Body1, Packet1, write1};
+
+/// Elements of a vector at most: it tells of the last numbers that a window holds, and an element
+/// tells of one number or more.
+const ELEMENTS: usize = WINDOW as usize;
 
 /// Writes a datagram up to the bytes of its part, and gives its length: the last number accepted;
 /// where it tells so, which of the numbers from one up to it were; and the number of the part.
@@ -36,7 +40,7 @@ pub fn write_head(
         (result ≡ length text) × (out.new ≡ text ++ drop result out.old) }
     ensures rest { drop result out.new ≡ drop result out.old }
 {
-    let mut elements = [0; 64];
+    let mut elements = [0; ELEMENTS];
     let mut vector = None;
     if tells {
         let count = write_elements(seen, from, last, &mut elements);
@@ -51,7 +55,7 @@ pub fn write_head(
 
 /// Writes the elements of the vector that tells which of the numbers from one up to another were
 /// accepted, and gives how many.
-fn write_elements(seen: &Seen<W32>, from: u64, last: u64, out: &mut [u8; 64]) -> usize
+fn write_elements(seen: &Seen<W32>, from: u64, last: u64, out: &mut [u8; ELEMENTS]) -> usize
     requires near { last + 1 ≤ from + WINDOW }
     requires bound { last < 2 ^ 62 }
     ensures bound { result ≤ WINDOW }
@@ -59,24 +63,17 @@ fn write_elements(seen: &Seen<W32>, from: u64, last: u64, out: &mut [u8; 64]) ->
     ensures elements { (numbers : List ℕ) → Notes seen.now numbers →
         take result out.new ≡ elements_of (flags_from (is_seen TELL numbers) from (last + 1 - from)) }
 {
-    let count = (last + 1).saturating_sub(from) as usize;
-    let mut flags = [false; 64];
-    let flags = &mut flags[..count];
-    mark(seen, from, flags);
-    match write_runs(flags, out) {
-        Ok(length) => length,
-        Err(_) => unreachable!(),
+    let mut place = Out::new(out);
+    let mut writer = RunWriter::new();
+    for ahead in 0..(last + 1).saturating_sub(from) {
+        match writer.flag(seen.has(from + ahead), &mut place) {
+            Ok(()) => {}
+            Err(_) => unreachable!(),
+        }
     }
-}
-
-/// Says of the numbers from one on which were accepted.
-fn mark(seen: &Seen<W32>, from: u64, flags: &mut [bool])
-    requires { from + length flags.old ≤ 2 ^ 64 }
-    ensures { (numbers : List ℕ) → Notes seen.now numbers →
-        flags.new ≡ flags_from (is_seen TELL numbers) from (length flags.old) }
-{
-    for ahead in 0..flags.len() {
-        flags[ahead] = seen.has(from + ahead as u64);
+    match writer.end(&mut place) {
+        Ok(()) => place.at(),
+        Err(_) => unreachable!(),
     }
 }
 

@@ -21,6 +21,3 @@ mod tellings;
 
 pub use joined::{a_lossy_link_carries_a_part, lossy_links_join};
 pub use link::LossyCore;
-
-#[cfg(test)]
-mod tests;
