@@ -7,7 +7,7 @@ use Rattle.mt_base.specs.Trace.{Trace, Start, ◌▷◌}
 use Rattle.carrier.specs.declared.state.Took.{Took}
 use Rattle.carrier.specs.declared.state.Took.TheVariants.{Ignored}
 use Rattle.carrier.specs.declared.state.Reason.TheVariants as reason
-use Rattle.mt_endpoint.specs.Acts.{Act, Began, Opens, Sends, Takes, Asks, Attaches, Refuses, Syncs, Closes, Hears, Releases, Spoken}
+use Rattle.mt_endpoint.specs.Acts.{Act, Began, Opens, Sends, Takes, Asks, Attaches, Refuses, Syncs, Closes, Hears, Draws, Releases, Spoken, Carried}
 use Rattle.mt_endpoint.specs.Said.{Said, Capable, Creates, Created, Brings, Ends, Moves, Moved, said}
 use Rattle.mt_endpoint.specs.Holding.{held, weight}
 use Rattle.mt_endpoint.specs.Tunnels.{is_attached}
@@ -67,9 +67,11 @@ is_for_memory (Ends id) = false
 is_for_memory (Moves lists) = false
 is_for_memory (Moved kinds) = false
 
--- acts that take memory: such a frame, and the release of data
+-- acts that take memory: such a frame, and data of a tunnel, as they are pulled behind their word or
+-- released
 abbrev pub takes_memory : Act → Bool
 takes_memory (Hears (Spoken pdu)) = is_for_memory (said pdu)
+takes_memory (Draws kind at (Carried bytes pdu)) = is_for_memory (said pdu)
 takes_memory (Releases kind at bytes pdu) = is_for_memory (said pdu)
 takes_memory act = false
 

@@ -118,6 +118,13 @@ impl Paths {
         Ok(())
     }
 
+    /// How many requests were read: at most 256.
+    pub fn requests_read(&self) -> usize
+        ensures { result ≡ length self.now.read }
+    {
+        self.read.count()
+    }
+
     /// A Soft-Sync request was read, which names these kinds, with channels or without. Its number
     /// is given, from 0; none where 256 were read before, and then nothing changes.
     pub fn got_begin(&mut self, reliable: bool, lossy: bool) -> Option<u32>
