@@ -1,5 +1,5 @@
 -- A client that answers all that it can has answered what its acts make due.
-use Rattle.std.proofs.Common.{◌≡◌, ℕ, ◌+◌, Bool, true, false, cond, List, [], ◌∷◌, length, append-nil, Option, Some, None, is_some, refl, sym, ap, subst, ◌∙◌, arith}
+use Rattle.std.proofs.Common.{◌≡◌, Bool, true, false, cond, List, [], ◌∷◌, length, append-nil, Option, Some, None, refl, sym, ap, ◌∙◌, arith}
 use Rattle.mt_base.specs.declared.kinds.Role.TheVariants.{Client}
 use Rattle.mt_base.specs.Trace.{Trace, ◌▷◌}
 use Rattle.soft_sync.specs.declared.kinds.Kinds.{Kinds}

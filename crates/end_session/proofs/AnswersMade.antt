@@ -8,7 +8,7 @@ use Rattle.mt_base.specs.Trace.{Trace, ◌▷◌}
 use Rattle.mt_base.specs.Writing.{joined}
 use Rattle.dvc_pdus.specs.Value.{SyncResponse, spelled}
 use Rattle.soft_sync.specs.declared.kinds.Kinds.{Kinds}
-use Rattle.soft_sync.specs.Exchanges.{Answer, Exchange, Request, answered, behind, behind_from, exchanges, giving, has, names, naming, unanswered, with_answer}
+use Rattle.soft_sync.specs.Exchanges.{Answer, Exchange, Request, answered, behind, behind_from, channels_at, exchanges, giving, has, names, naming, unanswered, with_answer}
 use Rattle.soft_sync.specs.Words.{Words}
 use Rattle.tunnel_pdus.specs.Value.{Channel, frame_fields}
 use Rattle.mt_endpoint.specs.Acts.{Act, Answers, Spoken}
@@ -51,13 +51,20 @@ pub record Oldest (number : ℕ) (xs : List Exchange) : Type 0 where
   pub rest : List Request
   pub is_oldest : unanswered_in xs ≡ request ∷ rest
   pub names_are : (kind : Kind) → names number kind xs ≡ has kind request.named
+  pub channels_are : channels_at number xs ≡ request.channels
 
 oldest_from : (base number : ℕ) (xs : List Exchange) → behind_from base xs ≡ Some (base + number) → Oldest number xs
 oldest_from base number [] h = absurd (let no : None ≡ Some (base + number) = h in cc)
 oldest_from base zero (x ∷ xs) h = by_test x.answer.is_given refl h where
   by_test : (b : Bool) → x.answer.is_given ≡ b → cond b (behind_from (base + 1) xs) (Some base) ≡ Some (base + zero) → Oldest zero (x ∷ xs)
   by_test true e k = absurd (omega (arith, (at_least (base + 1) (base + zero) xs k).0))
-  by_test false e k = record { request = x.request; rest = unanswered_in xs; is_oldest = ap (λ b. cond b (unanswered_in xs) (x.request ∷ unanswered_in xs)) e; names_are = λ kind. refl }
+  by_test false e k = record {
+    request = x.request;
+    rest = unanswered_in xs;
+    is_oldest = ap (λ b. cond b (unanswered_in xs) (x.request ∷ unanswered_in xs)) e;
+    names_are = λ kind. refl;
+    channels_are = refl;
+  }
 oldest_from base (suc number) (x ∷ xs) h = by_test x.answer.is_given refl h (λ e. oldest_from (base + 1) number xs e) where
   by_test : (b : Bool) → x.answer.is_given ≡ b → cond b (behind_from (base + 1) xs) (Some base) ≡ Some (base + suc number) → (behind_from (base + 1) xs ≡ Some ((base + 1) + number) → Oldest number xs) → Oldest (suc number) (x ∷ xs)
   by_test true e k deeper =
@@ -66,6 +73,7 @@ oldest_from base (suc number) (x ∷ xs) h = by_test x.answer.is_given refl h (�
         rest = o.rest;
         is_oldest = ap (λ b. cond b (unanswered_in xs) (x.request ∷ unanswered_in xs)) e ∙ o.is_oldest;
         names_are = o.names_are;
+        channels_are = o.channels_are;
       }
   by_test false e k deeper = absurd (omega (arith, some_same base (base + suc number) k))
 

@@ -1,5 +1,5 @@
 -- An end that closes a channel stands for one act more.
-use Rattle.std.proofs.Common.{◌≡◌, ◌==◌, ℕ, ◌+◌, ◌≤◌, Bool, true, false, cond, not, nat_eq, List, [], ◌∷◌, ◌++◌, length, length-append, Option, Some, None, is_some, IfErr, Result, Ok, Err, is_err, refl, sym, ap, subst, ◌∙◌, arith, eqb}
+use Rattle.std.proofs.Common.{◌≡◌, ◌==◌, ℕ, ◌+◌, ◌≤◌, Bool, true, false, cond, not, nat_eq, List, [], ◌∷◌, ◌++◌, length, length-append, Option, Some, None, is_some, refl, sym, ap, subst, ◌∙◌, arith, eqb}
 use Rattle.std.specs.Cmp.{nat_eq_equiv}
 use Rattle.std.specs.Map.{keys_of, lookup, set_value}
 use Rattle.std.specs.Option.{option_or, unwrap_or}
@@ -11,11 +11,9 @@ use Rattle.mt_base.specs.declared.kinds.Role.{Role}
 use Rattle.mt_base.specs.declared.kinds.Role.TheVariants.{Server, Client}
 use Rattle.mt_base.specs.Trace.{Trace, ◌▷◌}
 use Rattle.dvc_pdus.specs.Value.{Close, spelled}
-use Rattle.dvc_channels.specs.Acts.{Ended, TakesData, WhyNotClosed}
+use Rattle.dvc_channels.specs.Acts.{Ended}
 use Rattle.dvc_channels.specs.Acts as change
 use Rattle.dvc_channels.specs.Table as channels
-use Rattle.dvc_channels.specs.declared.answers.ChannelRefusal.{ChannelRefusal}
-use Rattle.dvc_channels.specs.declared.answers.ChannelRefusal.TheVariants as refusal
 use Rattle.dvc_channels.specs.declared.answers.ChannelState.{ChannelState}
 use Rattle.dvc_channels.specs.declared.answers.ChannelState.TheVariants as state
 use Rattle.hold_queue.specs.Held as hold
@@ -126,16 +124,6 @@ may_close broken role t id h =
       open_is = open_one (channel role id t) (none_later a b (none_first (option_or a b) c h));
       loud = loud_on t (outward id t) (none_later (option_or a b) c h);
     }
-
--- the table then closes it
-pub is_closed : (r : Result (Unit {0}) ChannelRefusal) (u : Trace change.Act) (id : ℕ) → change.state u id ≡ state.Open → is_err r ≡ true → IfErr r (λ why. WhyNotClosed u id why) → ⊥
-is_closed (Ok x) u id open_is err why = let never : false ≡ true = err in cc
-is_closed (Err (refusal.UnknownChannel other)) u id open_is err why = why.1 (subst TakesData (sym open_is) tt)
-is_closed (Err (refusal.KnownChannel other)) u id open_is err why = why
-is_closed (Err (refusal.FirstInside other)) u id open_is err why = why
-is_closed (Err (refusal.MoreThanLength other)) u id open_is err why = why
-is_closed (Err (refusal.MessageTooLong other total)) u id open_is err why = why
-is_closed (Err refusal.NoMemory) u id open_is err why = why
 
 -- ---- the act
 

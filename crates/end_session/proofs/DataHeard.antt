@@ -1,6 +1,7 @@
 -- An end that hears data, or the close of a channel, stands for one act more.
-use Rattle.std.proofs.Common.{◌≡◌, ℕ, Bool, true, false, cond, not, ◌&&◌, eqb, List, [], ◌∷◌, ◌++◌, Option, Some, None, is_some, Result, Ok, Err, OnOk, OnErr, IfErr, refl, sym, ap, subst, ◌∙◌, append-nil}
+use Rattle.std.proofs.Common.{◌≡◌, ℕ, Bool, true, false, cond, not, ◌&&◌, eqb, List, [], ◌∷◌, ◌++◌, Option, Some, None, is_some, Result, Ok, Err, OnOk, OnErr, refl, sym, ap, subst, ◌∙◌, append-nil}
 use Rattle.std.specs.Option.{option_or}
+use Rattle.mt_base.specs.declared.kinds.Kind.{Kind}
 use Rattle.mt_base.specs.declared.kinds.Kind.TheVariants.{Reliable, Lossy}
 use Rattle.mt_base.specs.declared.kinds.Role.{Role}
 use Rattle.mt_base.specs.declared.kinds.Role.TheVariants.{Server, Client}
@@ -25,7 +26,7 @@ use Rattle.mt_endpoint.specs.Alone.{EndOfActs}
 use Rattle.mt_endpoint.specs.Channels.{channel, is_closed, is_closed_in, is_open_in, table, with_said}
 use Rattle.mt_endpoint.specs.Faults.{Why, TooLateOnMain, because, data_fault, is_capable, is_moved, is_moved_whole, is_taken_in, late_fault, main_fault, said_fault, unknown_fault, when}
 use Rattle.mt_endpoint.specs.Faults as faults
-use Rattle.mt_endpoint.specs.Holding.{Held, held, is_of, unless_ended, without}
+use Rattle.mt_endpoint.specs.Holding.{held, unless_ended, without}
 use Rattle.mt_endpoint.specs.Moving.{inward, made, outward, read}
 use Rattle.mt_endpoint.specs.Said.{Brings, Ends, said}
 use Rattle.mt_endpoint.specs.Tunnels.{is_silent}
@@ -37,12 +38,12 @@ use Rattle.end_session.specs.declared.cause.Cause.{Cause}
 use Rattle.end_session.specs.Causes.{why_in}
 use Rattle.end_session.specs.Known.{Known}
 use Rattle.end_session.specs.Outgoing.{Outgoing}
-use Rattle.end_session.specs.Standing.{AreKept, Gone, IsKeptAs, IsLawful, Stands, Waits}
+use Rattle.end_session.specs.Standing.{AreKept, Gone, IsLawful, Stands, Waits}
 use Rattle.end_session.specs.Store.{Store}
 use Rattle.end_session.specs.Writes.{writes}
 use Rattle.end_session.proofs.Heard.{behind, heard_lawful, spoken_still}
 use Rattle.end_session.proofs.Putting.{drew, dropped, quiet, spoke}
-use Rattle.end_session.proofs.Still.{SaysNothing, knows_still}
+use Rattle.end_session.proofs.Still.{IsStill, SaysNothing, knows_still}
 use Rattle.end_session.proofs.ChannelsClosed.{kept_without}
 use Rattle.end_session.proofs.ToldOf.{Says, has_place, told_again}
 
@@ -65,7 +66,7 @@ inward_is s t gone id st =
     let w = (st.knows).words_are in
     ap (λ x. path_of (option_or (listed id x) (moved id (s.paths).made))) w.read_are ∙ ap (λ x. path_of (option_or (listed id (read t)) (moved id x))) w.made_are
 
-outward_is : (s : Store) (t : Trace Act) (gone : Gone) (id : ℕ) → Stands s t gone → words.outward id s.paths ≡ outward id t
+pub outward_is : (s : Store) (t : Trace Act) (gone : Gone) (id : ℕ) → Stands s t gone → words.outward id s.paths ≡ outward id t
 outward_is s t gone id st =
     let w = (st.knows).words_are in
     ap (λ x. path_of (option_or (listed id x) (moved id (s.paths).read))) w.made_are ∙ ap (λ x. path_of (option_or (listed id (made t)) (moved id x))) w.read_are
@@ -168,39 +169,32 @@ err_on P r x e = subst (λ r. OnOk r P) (sym e) tt
 says_nothing : (id : ℕ) → SaysNothing (Hears (Spoken (Close id)))
 says_nothing id = record { none_made = refl; none_read = refl; no_answer_read = refl; no_answer_made = refl; no_version = refl; no_capabilities = refl }
 
-close_says : (role : Role) (t : Trace Act) (id : ℕ) → Says role t (Hears (Spoken (Close id))) id false
-close_says role t id x = by_test (eqb id x) where
+close_says : (role : Role) (t : Trace Act) (act : Act) (id : ℕ) → table role (t ▷ act) ≡ table role t ▷ Ended id → Says role t act id false
+close_says role t act id same x = ap (λ u. is_open_in (change.state u x)) same ∙ by_test (eqb id x) where
   by_test : (b : Bool) → is_open_in (cond b state.Closed (change.state (table role t) x)) ≡ cond b false (is_open_in (change.state (table role t) x))
   by_test true = refl
   by_test false = refl
 
 -- the channel takes data
-taking : (s : ChannelState) (why : Why) → when (not (is_taken_in s)) why ≡ None → TakesData s
+pub taking : (s : ChannelState) (why : Why) → when (not (is_taken_in s)) why ≡ None → TakesData s
 taking state.Unknown why h = absurd (let never : Some why ≡ None = h in cc)
 taking state.Asked why h = absurd (let never : Some why ≡ None = h in cc)
 taking state.Open why h = tt
 taking state.Refused why h = absurd (let never : Some why ≡ None = h in cc)
 taking state.Closed why h = tt
 
-takes : (role : Role) (t : Trace Act) (id : ℕ) → main_fault role t (Spoken (Close id)) ≡ None → TakesData (channel role id t)
+pub takes : (role : Role) (t : Trace Act) (id : ℕ) → main_fault role t (Spoken (Close id)) ≡ None → TakesData (channel role id t)
 takes role t id none =
     let fine = heard_fine role t (Close id) (Ends id) (tt, none) refl refl in
     taking (channel role id t) (faults.Channel (refusal.UnknownChannel id)) (neither (unknown_fault role t id) (late_fault role t id (is_moved_whole (inward id t))) fine).0
 
-no_why : (u : Trace Change) (id : ℕ) (why : ChannelRefusal) → TakesData (change.state u id) → WhyNotClosed u id why → ⊥
+pub no_why : (u : Trace Change) (id : ℕ) (why : ChannelRefusal) → TakesData (change.state u id) → WhyNotClosed u id why → ⊥
 no_why u id (refusal.UnknownChannel other) takes h = h.1 takes
 no_why u id (refusal.KnownChannel other) takes h = h
 no_why u id (refusal.FirstInside other) takes h = h
 no_why u id (refusal.MoreThanLength other) takes h = h
 no_why u id (refusal.MessageTooLong other total) takes h = h
 no_why u id refusal.NoMemory takes h = h
-
--- so the table closes it
-pub never_refused : (s : Store) (t : Trace Act) (gone : Gone) (id : ℕ) (r : Result (Unit {0}) ChannelRefusal) (why : ChannelRefusal) → main_fault s.role t (Spoken (Close id)) ≡ None
-    → ((u : Trace Change) → channels.Stands s.channels u → IfErr r (λ why. WhyNotClosed u id why)) → r ≡ Err why → Stands s t gone → ⊥
-never_refused s t gone id r why none refused e st =
-    let u = table s.role t in
-    no_why u id why (takes s.role t id none) (subst (λ r. IfErr r (λ why. WhyNotClosed u id why)) e (refused u (st.knows).channels_stand))
 
 listed_one : (role : Role) (t : Trace Act) (id : ℕ) → EndOfActs role t → main_fault role t (Spoken (Close id)) ≡ None → is_among id (ids (table role t)) ≡ true
 listed_one role t id e none = (rooted role t e).listed id (ended_known role t (Close id) id (tt, none) refl)
@@ -218,22 +212,31 @@ pub record IsClosedBy (s : Store) (id : ℕ) (c : channels.Table) (w : Words) (r
   pub reliable_is : reliable ≡ hold.without id s.held_reliable
   pub lossy_is : lossy ≡ hold.without id s.held_lossy
 
+-- an act that closes a channel
+pub ends : (s : Store) (t : Trace Act) (gone : Gone) (act : Act) (id : ℕ) (c : channels.Table) (w : Words) (reliable lossy : List hold.Pdu) (o : Outgoing) → IsStill s.role t act → EndOfActs s.role (t ▷ act)
+    → table s.role (t ▷ act) ≡ table s.role t ▷ Ended id → ((k : Kind) → held s.role k (t ▷ act) ≡ without id (held s.role k t)) → is_among id (ids (table s.role t)) ≡ true
+    → IsClosedBy s id c w reliable lossy → Waits s.role o (t ▷ act) gone → Stands s t gone
+    → Stands (record s { channels = c; paths = w; held_reliable = reliable; held_lossy = lossy; outgoing = o }) (t ▷ act) gone
+ends s t gone act id c w reliable lossy o still lawful same held_are among by waits st =
+    let k = st.knows in
+    let told_as = told_again s.role t act id false (s.paths).channels (k.words_are).channels_are among (ap ids same) (close_says s.role t act id same) in
+    let left_reliable = subst (AreKept (without id (held s.role Reliable t))) (sym by.reliable_is) (kept_without id (held s.role Reliable t) s.held_reliable k.reliable_held) in
+    let left_lossy = subst (AreKept (without id (held s.role Lossy t))) (sym by.lossy_is) (kept_without id (held s.role Lossy t) s.held_lossy k.lossy_held) in
+    subst (λ w. Stands (record s { channels = c; paths = w; held_reliable = reliable; held_lossy = lossy; outgoing = o }) (t ▷ act) gone) (sym by.told_is)
+    (record {
+      knows =
+          knows_still s.role s t act c (told id false (s.paths).channels) reliable lossy o k still lawful
+          (subst (channels.Stands c) (sym same) (by.ended (table s.role t) k.channels_stand)) told_as
+          (subst (λ q. AreKept q reliable) (sym (held_are Reliable)) left_reliable) (subst (λ q. AreKept q lossy) (sym (held_are Lossy)) left_lossy);
+      waits = waits;
+    })
+
 close_heard : (s : Store) (t : Trace Act) (gone : Gone) (id : ℕ) (c : channels.Table) (w : Words) (reliable lossy : List hold.Pdu) (o : Outgoing) → main_fault s.role t (Spoken (Close id)) ≡ None
     → IsClosedBy s id c w reliable lossy → Waits s.role o (t ▷ Hears (Spoken (Close id))) gone → Stands s t gone
     → Stands (record s { channels = c; paths = w; held_reliable = reliable; held_lossy = lossy; outgoing = o }) (t ▷ Hears (Spoken (Close id))) gone
 close_heard s t gone id c w reliable lossy o none by waits st =
     let k = st.knows in
-    let act = Hears (Spoken (Close id)) in
-    let told_as = told_again s.role t act id false (s.paths).channels (k.words_are).channels_are (listed_one s.role t id k.lawful none) refl (close_says s.role t id) in
-    subst (λ w. Stands (record s { channels = c; paths = w; held_reliable = reliable; held_lossy = lossy; outgoing = o }) (t ▷ act) gone) (sym by.told_is)
-    (record {
-      knows =
-          knows_still s.role s t act c (told id false (s.paths).channels) reliable lossy o k (spoken_still s.role t (Close id) (says_nothing id)) (heard_lawful s.role s t (Spoken (Close id)) k none)
-          (by.ended (table s.role t) k.channels_stand) told_as
-          (subst (AreKept (without id (held s.role Reliable t))) (sym by.reliable_is) (kept_without id (held s.role Reliable t) s.held_reliable k.reliable_held))
-          (subst (AreKept (without id (held s.role Lossy t))) (sym by.lossy_is) (kept_without id (held s.role Lossy t) s.held_lossy k.lossy_held));
-      waits = waits;
-    })
+    ends s t gone (Hears (Spoken (Close id))) id c w reliable lossy o (spoken_still s.role t (Close id) (says_nothing id)) (heard_lawful s.role s t (Spoken (Close id)) k none) refl (λ k. refl) (listed_one s.role t id k.lawful none) by waits st
 
 -- ---- the answer to it
 
@@ -241,7 +244,7 @@ close_adds : (role : Role) (t : Trace Act) (id : ℕ) → adds role t (Hears (Sp
 close_adds Server t id = append-nil (unless (is_closed Server id t) (closing (outward id t) id ∷ []))
 close_adds Client t id = append-nil (unless (is_closed Client id t) (closing (outward id t) id ∷ []))
 
-wrote : (role : Role) (o : Outgoing) (t : Trace Act) (gone : Gone) (act : Act) (id : ℕ) (path : Path) (silent : Bool) → adds role t act ≡ closing path id ∷ [] → is_silent Reliable t ≡ silent → Waits role o t gone
+pub wrote : (role : Role) (o : Outgoing) (t : Trace Act) (gone : Gone) (act : Act) (id : ℕ) (path : Path) (silent : Bool) → adds role t act ≡ closing path id ∷ [] → is_silent Reliable t ≡ silent → Waits role o t gone
     → Waits role (writes silent (closing path id) o) (t ▷ act) gone
 wrote role o t gone act id Main silent e is w = spoke role o t gone act (Spoken (Close id)) e w
 wrote role o t gone act id (Tunnel Lossy) silent e is w = spoke role o t gone act (Spoken (Close id)) e w
@@ -249,7 +252,7 @@ wrote role o t gone act id (Tunnel Reliable) true e is w = dropped role o t gone
 wrote role o t gone act id (Tunnel Reliable) false e is w = drew role o t gone act Reliable (Carried (spelled (Close id)) (Close id)) e is w
 
 -- whether it was closed here, by what the table says
-closed_as : (s : Store) (t : Trace Act) (gone : Gone) (id : ℕ) (r : ChannelState) (told b : Bool) → ((u : Trace Change) → channels.Stands s.channels u → r ≡ change.state u id) → told ≡ is_closed_in r → told ≡ b → Stands s t gone
+pub closed_as : (s : Store) (t : Trace Act) (gone : Gone) (id : ℕ) (r : ChannelState) (told b : Bool) → ((u : Trace Change) → channels.Stands s.channels u → r ≡ change.state u id) → told ≡ is_closed_in r → told ≡ b → Stands s t gone
     → is_closed s.role id t ≡ b
 closed_as s t gone id r told b is told_is told_as st = sym (ap is_closed_in (is (table s.role t) (st.knows).channels_stand)) ∙ sym told_is ∙ told_as
 

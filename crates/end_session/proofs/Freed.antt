@@ -38,19 +38,19 @@ use Rattle.end_session.proofs.Still.{IsStill, TellsNothing, knows_still}
 
 -- ---- the oldest that is held
 
-record IsFirst (id : ℕ) (queue : List Held) (p : hold.Pdu) : Type 0 where
-  h : Held
-  rest : List Held
-  first_is : only id queue ≡ h ∷ rest
-  kept : IsKeptAs h p
+pub record IsFirst (id : ℕ) (queue : List Held) (p : hold.Pdu) : Type 0 where
+  pub h : Held
+  pub rest : List Held
+  pub first_is : only id queue ≡ h ∷ rest
+  pub kept : IsKeptAs h p
 
 some_same : (p q : hold.Pdu) → Some p ≡ Some q → p ≡ q
 some_same p q e = cc
 
-never_none : {A : Type 0} {p : hold.Pdu} → None ≡ Some p → A
+pub never_none : {A : Type 0} {p : hold.Pdu} → None ≡ Some p → A
 never_none e = cc
 
-first_held : (id : ℕ) (queue : List Held) (pdus : List hold.Pdu) (p : hold.Pdu) → AreKept queue pdus → hold.oldest id pdus ≡ Some p → IsFirst id queue p
+pub first_held : (id : ℕ) (queue : List Held) (pdus : List hold.Pdu) (p : hold.Pdu) → AreKept queue pdus → hold.oldest id pdus ≡ Some p → IsFirst id queue p
 first_held id [] [] p k e = never_none e
 first_held id [] (q ∷ pdus) p k e = absurd k
 first_held id (h ∷ queue) [] p k e = absurd k
@@ -111,7 +111,7 @@ release_refuses_none : (role : Role) (k kind : Kind) (t : Trace Act) (at : ℕ) 
 release_refuses_none Server k kind t at bytes pdu = refl
 release_refuses_none Client k kind t at bytes pdu = refl
 
-release_tells : (role : Role) (k kind : Kind) (t : Trace Act) (at : ℕ) (bytes : List ℕ) (pdu : Pdu) → TellsNothing role k t (Releases kind at bytes pdu)
+pub release_tells : (role : Role) (k kind : Kind) (t : Trace Act) (at : ℕ) (bytes : List ℕ) (pdu : Pdu) → TellsNothing role k t (Releases kind at bytes pdu)
 release_tells role k kind t at bytes pdu =
     record { no_request = refl; no_link = refl; no_verdict = refl; no_answer = refl; no_refusal = release_refuses_none role k kind t at bytes pdu; no_silence = refl }
 
@@ -134,18 +134,18 @@ kept_after role k kind t at id bytes pdu pdus e kept =
     (but_first k kind id (held role k t) pdus (channel_of pdu) (ap channel_in e) kept)
 
 -- what the call was given
-record MayRelease (s : Store) (t : Trace Act) (kind : Kind) (id : ℕ) (pdu : Pdu) : Type 0 where
-  h : Held
-  rest : List Held
-  first_is : only id (held s.role kind t) ≡ h ∷ rest
-  pdu_is : h.pdu ≡ pdu
-  through : is_through kind (inward id t) ≡ true
+pub record MayRelease (s : Store) (t : Trace Act) (kind : Kind) (id : ℕ) (pdu : Pdu) : Type 0 where
+  pub h : Held
+  pub rest : List Held
+  pub first_is : only id (held s.role kind t) ≡ h ∷ rest
+  pub pdu_is : h.pdu ≡ pdu
+  pub through : is_through kind (inward id t) ≡ true
 
-kept_of : (s : Store) (t : Trace Act) (gone : Gone) (kind : Kind) → Stands s t gone → AreKept (held s.role kind t) (held_of kind s)
+pub kept_of : (s : Store) (t : Trace Act) (gone : Gone) (kind : Kind) → Stands s t gone → AreKept (held s.role kind t) (held_of kind s)
 kept_of s t gone Reliable st = (st.knows).reliable_held
 kept_of s t gone Lossy st = (st.knows).lossy_held
 
-may_release : (s : Store) (t : Trace Act) (gone : Gone) (kind : Kind) (id : ℕ) (pdu : Pdu) → is_through kind (words.inward id s.paths) ≡ true → IsOldest kind id pdu s → Stands s t gone → MayRelease s t kind id pdu
+pub may_release : (s : Store) (t : Trace Act) (gone : Gone) (kind : Kind) (id : ℕ) (pdu : Pdu) → is_through kind (words.inward id s.paths) ≡ true → IsOldest kind id pdu s → Stands s t gone → MayRelease s t kind id pdu
 may_release s t gone kind id pdu word o st =
     let f = first_held id (held s.role kind t) (held_of kind s) o.kept (kept_of s t gone kind st) o.oldest_is in record {
       h = f.h;

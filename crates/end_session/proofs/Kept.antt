@@ -1,5 +1,5 @@
 -- Channel PDUs that are pulled from the links are held.
-use Rattle.std.proofs.Common.{◌≡◌, ℕ, ◌+◌, ◌<◌, All, Bool, true, false, cond, not, ◌&&◌, ◌||◌, nat_le, List, [], ◌∷◌, ◌++◌, length, Option, Some, None, IfSome, IfNone, Ok, refl, sym, ap, subst, ◌∙◌}
+use Rattle.std.proofs.Common.{◌≡◌, ℕ, ◌+◌, ◌<◌, ◌≤◌, All, Bool, true, false, cond, not, ◌&&◌, ◌||◌, nat_le, List, [], ◌∷◌, ◌++◌, length, Option, Some, None, IfSome, IfNone, Ok, refl, sym, ap, subst, ◌∙◌, arith}
 use Rattle.mt_base.specs.Ends.{other}
 use Rattle.mt_base.specs.declared.kinds.Kind.{Kind}
 use Rattle.mt_base.specs.declared.kinds.Kind.TheVariants.{Reliable, Lossy}
@@ -13,9 +13,7 @@ use Rattle.dvc_channels.specs.declared.answers.ChannelState.{ChannelState}
 use Rattle.dvc_pdus.specs.Reading.{reading}
 use Rattle.dvc_pdus.specs.Value.{Pdu}
 use Rattle.hold_queue.specs.Held as hold
-use Rattle.soft_sync.specs.Exchanges.{Exchange, listed, moved}
 use Rattle.soft_sync.specs.Words as words
-use Rattle.std.specs.Option.{option_or}
 use Rattle.mt_endpoint.specs.Acts.{Act, Draws, Carried}
 use Rattle.mt_endpoint.specs.Alone.{EndOfActs}
 use Rattle.mt_endpoint.specs.Channels.{table}
@@ -63,7 +61,7 @@ stands_where : (role : Role) (kind : Kind) (t : Trace Act) (place : ℕ) (bytes 
 stands_where role kind t place bytes pdu begun lawful fine = (sym (ap not begun), (judged role bytes pdu, no_fault role kind t place (Carried bytes pdu) fine), lawful)
 
 -- a PDU that is not held changes nothing
-same_held : (role : Role) (k kind : Kind) (t : Trace Act) (place : ℕ) (bytes : List ℕ) (pdu : Pdu) → is_held role kind t bytes pdu (held role kind t) ≡ false → held role k (t ▷ Draws kind place (Carried bytes pdu)) ≡ held role k t
+pub same_held : (role : Role) (k kind : Kind) (t : Trace Act) (place : ℕ) (bytes : List ℕ) (pdu : Pdu) → is_held role kind t bytes pdu (held role kind t) ≡ false → held role k (t ▷ Draws kind place (Carried bytes pdu)) ≡ held role k t
 same_held role Reliable Reliable t place bytes pdu e = ap (λ b. cond b (held role Reliable t ++ record { at = place; bytes = bytes; pdu = pdu } ∷ []) (held role Reliable t)) e
 same_held role Reliable Lossy t place bytes pdu e = refl
 same_held role Lossy Reliable t place bytes pdu e = refl
@@ -204,3 +202,7 @@ beside_reliable s u kind size is e room = subst (λ (x : Store). IsHeldBeside si
 
 pub beside_lossy : (s u : Store) (kind : Kind) (size : ℕ) → u ≡ s → kind ≡ Lossy → IsHeldBeside size (held_of kind s) → IsHeldBeside size u.held_lossy
 beside_lossy s u kind size is e room = subst (λ (x : Store). IsHeldBeside size x.held_lossy) (sym is) (subst (λ k. IsHeldBeside size (held_of k s)) e room)
+
+-- a place within a u64 is told as it is
+pub told : (at : ℕ) → at ≤ 18446744073709551615 → at ≡ told_place at
+told at h = omega (arith, h)

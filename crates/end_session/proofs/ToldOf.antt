@@ -27,14 +27,14 @@ same_way a b false h = other_way a b h
 
 -- ---- a channel that was told of
 
-some_at : (id : ℕ) (es : List (ℕ × Bool)) → is_among id (keys_of es) ≡ true → is_some (lookup (nat_eq id) es) ≡ true
+pub some_at : (id : ℕ) (es : List (ℕ × Bool)) → is_among id (keys_of es) ≡ true → is_some (lookup (nat_eq id) es) ≡ true
 some_at id [] h = h
 some_at id ((k, b) ∷ es) h = by_test (eqb k id) refl h (some_at id es) where
   by_test : (c : Bool) → eqb k id ≡ c → c || is_among id (keys_of es) ≡ true → (is_among id (keys_of es) ≡ true → is_some (lookup (nat_eq id) es) ≡ true) → is_some (cond (eqb id k) (Some b) (lookup (nat_eq id) es)) ≡ true
   by_test true e r deeper = ap (λ c. is_some (cond c (Some b) (lookup (nat_eq id) es))) (same_way k id true e)
   by_test false e r deeper = ap (λ c. is_some (cond c (Some b) (lookup (nat_eq id) es))) (same_way k id false e) ∙ deeper r
 
-some_is : (o : Option Bool) → is_some o ≡ true → IsSome o
+pub some_is : (o : Option Bool) → is_some o ≡ true → IsSome o
 some_is None h = absurd (let never : false ≡ true = h in cc)
 some_is (Some b) h = refl
 

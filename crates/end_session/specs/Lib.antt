@@ -1,11 +1,17 @@
 pub mod AnswerDue
 pub mod AskedView
 pub mod BeforeRoom
+pub mod Behind
 pub mod Causes
 pub mod Closing
+pub mod Coming
 pub mod Drawing
+pub mod Freeing
 pub mod Giving
+pub mod Hearing
 pub mod Known
+pub mod ListedView
+pub mod Listing
 pub mod MessageGiven
 pub mod OfKind
 pub mod Outgoing

@@ -1,6 +1,6 @@
 //! Why an end does not take what it reads.
 
-ghost use Rattle.std.specs.Prelude.{◌≡◌};
+ghost use Rattle.std.specs.Prelude.{◌≡◌, is_some, not};
 ghost use Rattle.end_session.specs.Causes.{fault_by, why_of};
 
 use dvc_channels::ChannelRefusal;
@@ -24,6 +24,20 @@ pub enum Cause {
 }
 
 impl Cause {
+    /// Whether memory was wanting, which says nothing of the PDU.
+    pub(crate) fn is_lack(self) -> bool
+        ensures { result ≡ not (is_some (why_of self)) }
+    {
+        match self {
+            Cause::Unexpected => false,
+            Cause::BadSyncAnswer => false,
+            Cause::SyncUnknown { .. } => false,
+            Cause::Channel(_) => false,
+            Cause::TooLateOnMain { .. } => false,
+            Cause::NoMemory => true,
+        }
+    }
+
     /// The fault of what was read at this place.
     pub fn at(self, place: Place) -> Fault
         ensures { result ≡ fault_by place (why_of self) }

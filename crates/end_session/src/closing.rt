@@ -5,6 +5,7 @@ ghost use Rattle.end_calls.specs.Refusing.{link_limit, passes, when, why_not_in}
 ghost use Rattle.end_calls.specs.declared.refusal.CloseRefusal.TheVariants as close;
 ghost use Rattle.end_session.specs.Closing.{closing_path};
 
+use crate::closes::end_channel;
 use crate::opening::HEADER;
 use crate::session::Session;
 use crate::spelled::Spelled;
@@ -89,13 +90,13 @@ impl Session {
         if let Some(why) = self.close_room(path, pdu.len(), load) {
             return Err(why);
         }
-        // It is open.
-        if self.channels.close(id).is_err() {
-            unreachable!();
-        }
-        self.paths.set_channel(id, false);
-        self.held_reliable.drop_all(id);
-        self.held_lossy.drop_all(id);
+        end_channel(
+            id,
+            &mut self.channels,
+            &mut self.paths,
+            &mut self.held_reliable,
+            &mut self.held_lossy,
+        );
         write_on(&mut self.outgoing, path, pdu.bytes());
         Ok(())
     }

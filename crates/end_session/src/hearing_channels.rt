@@ -21,13 +21,13 @@ const DENIED: u32 = 0x8007_0005;
 const REFUSED: u32 = 0x8000_0000;
 
 impl Session {
-    ghost use Rattle.std.specs.Prelude.{◌≡◌, ℕ, ◌+◌, ◌≤◌, List, length, Option, OnOk, IfErr, OnErr, None};
+    ghost use Rattle.std.specs.Prelude.{◌≡◌, ℕ, ◌+◌, ◌≤◌, List, length, Option, OnOk, IfErr, OnErr, None, IfSome, IsSome};
     ghost use Rattle.mt_base.specs.Trace.{Trace, ◌▷◌};
     ghost use Rattle.dvc_pdus.specs.Value.{Caps, CreateRequest, CreateResponse};
     ghost use Rattle.mt_endpoint.specs.Acts.{Act, Hears, Spoken};
     ghost use Rattle.mt_endpoint.specs.Faults.{main_fault};
     ghost use Rattle.end_calls.specs.declared.limits.TheConstants.{MAIN_QUEUE};
-    ghost use Rattle.end_session.specs.Causes.{IsCause, why_in};
+    ghost use Rattle.end_session.specs.Causes.{IsCause, why_in, why_of};
     ghost use Rattle.end_session.specs.Standing.{Gone, Stands};
 
     /// Either end hears the other's capabilities (MS-RDPEDYC section 2.2.1), with any charges. A client
@@ -36,6 +36,7 @@ impl Session {
         requires room { length ((self.old).outgoing).main + 2304 ≤ MAIN_QUEUE }
         ensures heard { (t : Trace Act) (gone : Gone) (charges : Option (List ℕ)) → Stands self.old t gone → OnOk result ((main_fault (self.old).role t (Spoken (Caps version charges)) ≡ None) × Stands self.new (t ▷ Hears (Spoken (Caps version charges))) gone) }
         ensures refused { (t : Trace Act) (gone : Gone) (charges : Option (List ℕ)) → Stands self.old t gone → IfErr result (λ cause. IsCause (main_fault (self.old).role t (Spoken (Caps version charges))) cause) }
+        ensures named { IfErr result (λ cause. IsSome (why_of cause)) }
         ensures unchanged { OnErr result (self.new ≡ self.old) }
         ensures same { ((self.new).role ≡ (self.old).role) × ((self.new).broken ≡ (self.old).broken) }
     {
@@ -98,6 +99,7 @@ impl Session {
     pub fn hear_created(&mut self, id: u32, status: u32) -> Result<(), Cause>
         ensures heard { (t : Trace Act) (gone : Gone) → Stands self.old t gone → OnOk result ((main_fault (self.old).role t (Spoken (CreateResponse id status)) ≡ None) × Stands self.new (t ▷ Hears (Spoken (CreateResponse id status))) gone) }
         ensures refused { (t : Trace Act) (gone : Gone) → Stands self.old t gone → IfErr result (λ cause. IsCause (main_fault (self.old).role t (Spoken (CreateResponse id status))) cause) }
+        ensures named { IfErr result (λ cause. IsSome (why_of cause)) }
         ensures unchanged { OnErr result (self.new ≡ self.old) }
         ensures same { ((self.new).role ≡ (self.old).role) × ((self.new).broken ≡ (self.old).broken) }
     {
@@ -130,9 +132,10 @@ impl Session {
         }
     }
 
-    /// What there is against the answer for a channel.
+    /// What there is against the answer for a channel. It is no want of memory.
     fn created_cause(&self, id: u32) -> Option<Cause>
-        ensures { (t : Trace Act) (gone : Gone) (status : ℕ) → Stands self.now t gone → main_fault (self.now).role t (Spoken (CreateResponse id status)) ≡ why_in result }
+        ensures found { (t : Trace Act) (gone : Gone) (status : ℕ) → Stands self.now t gone → main_fault (self.now).role t (Spoken (CreateResponse id status)) ≡ why_in result }
+        ensures named { IfSome result (λ cause. IsSome (why_of cause)) }
     {
         if !self.is_ready {
             return Some(Cause::Unexpected);

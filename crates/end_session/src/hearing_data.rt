@@ -7,6 +7,7 @@ ghost use Rattle.mt_endpoint.specs.Faults.{Channel, is_moved, is_moved_whole};
 ghost use Rattle.end_session.specs.Causes.{why_of};
 
 use crate::cause::Cause;
+use crate::closes::end_channel;
 use crate::session::Session;
 use dvc_channels::{ChannelRefusal, ChannelState};
 use dvc_pdus::DvcPdu;
@@ -60,6 +61,7 @@ impl Session {
         requires waits { waiting_for Reliable (self.old).outgoing ≡ [] }
         ensures heard { (t : Trace Act) (gone : Gone) → Stands self.old t gone → OnOk result ((main_fault (self.old).role t (Spoken (Close id)) ≡ None) × Stands self.new (t ▷ Hears (Spoken (Close id))) gone) }
         ensures refused { (t : Trace Act) (gone : Gone) → Stands self.old t gone → IfErr result (λ cause. IsCause (main_fault (self.old).role t (Spoken (Close id))) cause) }
+        ensures named { IfErr result (λ cause. IsSome (why_of cause)) }
         ensures unchanged { OnErr result (self.new ≡ self.old) }
         ensures same { ((self.new).role ≡ (self.old).role) × ((self.new).broken ≡ (self.old).broken) }
     {
@@ -68,12 +70,13 @@ impl Session {
         }
         let is_closed = is_closed(self.channels.state(id));
         let path = self.paths.outward(id);
-        let Ok(()) = self.channels.close(id) else {
-            unreachable!()
-        };
-        self.paths.set_channel(id, false);
-        self.held_reliable.drop_all(id);
-        self.held_lossy.drop_all(id);
+        end_channel(
+            id,
+            &mut self.channels,
+            &mut self.paths,
+            &mut self.held_reliable,
+            &mut self.held_lossy,
+        );
         if is_closed {
             return Ok(());
         }
@@ -93,9 +96,10 @@ impl Session {
         self.channel_cause(id, is_moved(self.paths.inward(id)))
     }
 
-    /// What there is against the close of a channel.
+    /// What there is against the close of a channel. It is no want of memory.
     fn close_cause(&self, id: u32) -> Option<Cause>
-        ensures { (t : Trace Act) (gone : Gone) → Stands self.now t gone → main_fault (self.now).role t (Spoken (Close id)) ≡ why_in result }
+        ensures found { (t : Trace Act) (gone : Gone) → Stands self.now t gone → main_fault (self.now).role t (Spoken (Close id)) ≡ why_in result }
+        ensures named { IfSome result (λ cause. IsSome (why_of cause)) }
     {
         if !self.is_ready {
             return Some(Cause::Unexpected);
@@ -133,7 +137,7 @@ fn unknown(id: u32) -> Cause
 }
 
 /// Whether a channel in this state was closed.
-fn is_closed(state: ChannelState) -> bool
+pub(crate) fn is_closed(state: ChannelState) -> bool
     ensures { result ≡ is_closed_in state }
 {
     match state {

@@ -29,7 +29,7 @@ fn is_answer_to(named: Kinds, types: SyncTypes<'_>) -> bool
 }
 
 /// The kinds that an answer names.
-fn kinds_of(types: SyncTypes<'_>) -> Kinds
+pub(crate) fn kinds_of(types: SyncTypes<'_>) -> Kinds
     ensures { result ≡ kinds_of (types_left types.entry) }
 {
     let mut named = Kinds::NONE;
@@ -64,14 +64,14 @@ fn take_answer(paths: &mut Paths, named: Kinds)
 }
 
 impl Session {
-    ghost use Rattle.std.specs.Prelude.{◌≡◌, OnOk, IfErr, OnErr, None};
+    ghost use Rattle.std.specs.Prelude.{◌≡◌, OnOk, IfErr, OnErr, None, IfSome, IsSome};
     ghost use Rattle.mt_base.specs.Trace.{Trace, ◌▷◌};
     ghost use Rattle.dvc_pdus.specs.ListViews.{types_left};
     ghost use Rattle.dvc_pdus.specs.Value.{SyncResponse};
     ghost use Rattle.mt_endpoint.specs.Acts.{Act, Hears, Spoken};
     ghost use Rattle.mt_endpoint.specs.Faults.{answers_fault, main_fault};
     ghost use Rattle.mt_endpoint.specs.Moving.{unanswered_in};
-    ghost use Rattle.end_session.specs.Causes.{IsCause, why_in};
+    ghost use Rattle.end_session.specs.Causes.{IsCause, why_in, why_of};
     ghost use Rattle.end_session.specs.Standing.{Gone, Stands};
 
     /// A server hears the answer to its oldest Soft-Sync request that has none (MS-RDPEDYC section 2.2.5.2): what
@@ -82,6 +82,7 @@ impl Session {
     pub fn hear_moved(&mut self, types: SyncTypes<'_>) -> Result<(), Cause>
         ensures heard { (t : Trace Act) (gone : Gone) → Stands self.old t gone → OnOk result ((main_fault (self.old).role t (Spoken (SyncResponse (types_left types.entry))) ≡ None) × Stands self.new (t ▷ Hears (Spoken (SyncResponse (types_left types.entry)))) gone) }
         ensures refused { (t : Trace Act) (gone : Gone) → Stands self.old t gone → IfErr result (λ cause. IsCause (main_fault (self.old).role t (Spoken (SyncResponse (types_left types.entry)))) cause) }
+        ensures named { IfErr result (λ cause. IsSome (why_of cause)) }
         ensures unchanged { OnErr result (self.new ≡ self.old) }
         ensures same { ((self.new).role ≡ (self.old).role) × ((self.new).broken ≡ (self.old).broken) }
     {
@@ -92,9 +93,10 @@ impl Session {
         Ok(())
     }
 
-    /// What there is against an answer.
+    /// What there is against an answer. It is no want of memory.
     fn moved_cause(&self, types: SyncTypes<'_>) -> Option<Cause>
-        ensures { (t : Trace Act) (gone : Gone) → Stands self.now t gone → main_fault (self.now).role t (Spoken (SyncResponse (types_left types.entry))) ≡ why_in result }
+        ensures found { (t : Trace Act) (gone : Gone) → Stands self.now t gone → main_fault (self.now).role t (Spoken (SyncResponse (types_left types.entry))) ≡ why_in result }
+        ensures named { IfSome result (λ cause. IsSome (why_of cause)) }
     {
         if !self.is_ready {
             return Some(Cause::Unexpected);
@@ -105,9 +107,10 @@ impl Session {
         }
     }
 
-    /// What there is against an answer by the requests that have none.
+    /// What there is against an answer by the requests that have none. It is no want of memory.
     fn answer_cause(&self, types: SyncTypes<'_>) -> Option<Cause>
-        ensures { answers_fault (unanswered_in ((self.now).paths).made) (types_left types.entry) ≡ why_in result }
+        ensures found { answers_fault (unanswered_in ((self.now).paths).made) (types_left types.entry) ≡ why_in result }
+        ensures named { IfSome result (λ cause. IsSome (why_of cause)) }
     {
         let Some(number) = self.paths.awaited() else {
             return Some(Cause::BadSyncAnswer);

@@ -19,7 +19,7 @@ use soft_sync::Path;
 const OVERHEAD: usize = 16;
 
 /// The channel of data or of a close.
-fn channel_of(pdu: &DvcPdu<'_>) -> Option<u32>
+pub(crate) fn channel_of(pdu: &DvcPdu<'_>) -> Option<u32>
     ensures { result ≡ channel_of (pdu_of pdu.now) }
 {
     match *pdu {
@@ -37,7 +37,7 @@ fn channel_of(pdu: &DvcPdu<'_>) -> Option<u32>
 }
 
 /// The channel of a lone data PDU, which is all that a lossy tunnel carries.
-fn lone_of(pdu: &DvcPdu<'_>) -> Option<u32>
+pub(crate) fn lone_of(pdu: &DvcPdu<'_>) -> Option<u32>
     ensures lone { IfSome result (λ id. lone (pdu_of pdu.now) ≡ id ∷ []) }
     ensures other { IfNone result (lone (pdu_of pdu.now) ≡ []) }
     ensures channel { IfSome result (λ id. channel_of (pdu_of pdu.now) ≡ Some id) }
@@ -198,7 +198,7 @@ impl Session {
     }
 
     /// A channel, where it is open.
-    fn if_open(&self, id: Option<u32>) -> Option<u32>
+    pub(crate) fn if_open(&self, id: Option<u32>) -> Option<u32>
         ensures open_one { (t : Trace Act) (gone : Gone) → Stands self.now t gone → is_for_open (self.now).role t id ≡ is_some result }
         ensures found { IfSome result (λ found. id ≡ Some found) }
     {

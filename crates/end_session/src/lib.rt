@@ -1,5 +1,6 @@
-//! One end of a session without its links, as far as it is built: the steps of its own, and what it reads,
-//! PDU by PDU. What puts these together, and gives them their links, is still to come (docs/ENDPOINT.md).
+//! One end of a session without its links, as far as it is built: the steps of its own, what it reads, PDU
+//! by PDU, and what a whole frame of the main stream makes of it ([`Session::hear`]). What does the same for
+//! tunnels, and gives an end its links, is still to come (docs/ENDPOINT.md).
 //!
 //! Below it stand `end_calls` and `mt_endpoint`, whose definitions it follows. A [`Session`] stands for the
 //! acts so far (`specs/Standing.antt`): its channels, words, issued requests, tunnels and held PDUs are what
@@ -17,19 +18,26 @@ mod cause;
 mod closes;
 mod closing;
 mod drawing;
+mod freeing;
 mod giving;
 mod handing;
+mod hearing;
 mod hearing_channels;
 mod hearing_data;
 mod hearing_moves;
+mod hearing_sync;
 mod hearing_tunnels;
+mod hearing_whole;
 mod judging;
 mod keeping;
 mod laws;
+mod letting_go;
+mod listed;
 mod moving;
 mod opening;
 mod outgoing;
 mod outlet;
+mod passing;
 mod queue;
 mod reading;
 mod refusing;
@@ -42,6 +50,8 @@ mod spelled;
 mod stream;
 mod taking;
 mod tunnel;
+mod unread;
+mod untaken;
 mod writing;
 
 pub use cause::Cause;
@@ -52,3 +62,5 @@ pub use queue::MainQueue;
 pub use session::Session;
 pub use stream::Stream;
 pub use tunnel::{Asked, Tunnel, TunnelState};
+pub use unread::Unread;
+pub use untaken::Untaken;

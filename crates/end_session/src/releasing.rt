@@ -12,7 +12,7 @@ use hold_queue::Hold;
 use mt_base::Kind;
 
 /// The bytes of a channel PDU at most.
-const PDU: usize = 1_600;
+pub(crate) const PDU: usize = 1_600;
 
 /// The oldest PDU of a channel is no longer held for the tunnel of this kind.
 fn forget(kind: Kind, id: u32, reliable: &mut Hold, lossy: &mut Hold)
@@ -60,9 +60,9 @@ impl Session {
     ghost use Rattle.mt_endpoint.specs.Faults.{release_fault};
     ghost use Rattle.mt_endpoint.specs.Holding.{is_through};
     ghost use Rattle.mt_endpoint.specs.Said.{Brings, said};
-    ghost use Rattle.end_session.specs.Causes.{IsCause};
+    ghost use Rattle.end_session.specs.Causes.{IsCause, why_of};
     ghost use Rattle.end_session.specs.Drawing.{held_of};
-    ghost use Rattle.end_session.specs.Releasing.{IsOldest, Released};
+    ghost use Rattle.end_session.specs.Releasing.{IsOldest, Released, drops};
     ghost use Rattle.end_session.specs.Standing.{Gone, Stands};
 
     /// Gives the oldest PDU that is held for a channel of the tunnel of this kind, with its place and its
@@ -89,7 +89,10 @@ impl Session {
         requires data { IsData (pdu_of pdu.now) }
         ensures released { (t : Trace Act) (gone : Gone) → Stands self.old t gone → IfOk result (λ is_taken. Released kind id (pdu_of pdu.now) t gone self.new is_taken) }
         ensures refused { (t : Trace Act) (gone : Gone) → Stands self.old t gone → IfErr result (λ cause. IsCause (release_fault (self.old).role t (pdu_of pdu.now)) cause) }
+        ensures undropped { IfErr result (λ cause. drops kind (why_of cause) ≡ false) }
+        ensures held { IfOk result (λ is_taken. held_of kind self.new ≡ hold.without_oldest id (held_of kind self.old)) }
         ensures unchanged { OnErr result (self.new ≡ self.old) }
+        ensures quiet { ((self.new).outgoing ≡ (self.old).outgoing) × ((self.new).paths ≡ (self.old).paths) }
         ensures same { ((self.new).role ≡ (self.old).role) × ((self.new).broken ≡ (self.old).broken) }
     {
         if let Err(why) = self.channels.accept(id, pdu) {

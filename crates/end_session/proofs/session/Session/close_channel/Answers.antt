@@ -1,6 +1,7 @@
 use Rattle.std.proofs.Common.{◌≡◌, ℕ, List, length, None, inl, sym, ap, subst, ◌∙◌}
 use Rattle.mt_base.specs.Trace.{Trace, ◌▷◌}
 use Rattle.mt_base.specs.declared.kinds.Kind.TheVariants.{Reliable}
+use Rattle.dvc_channels.specs.Acts.{TakesData}
 use Rattle.mt_endpoint.specs.Acts.{Act, Closes}
 use Rattle.mt_endpoint.specs.Channels.{is_open_in, table}
 use Rattle.mt_endpoint.specs.Moving.{outward}
@@ -9,8 +10,8 @@ use Rattle.end_session.specs.Outgoing.{waiting_for}
 use Rattle.end_session.specs.Standing.{Gone, Stands}
 use Rattle.end_session.specs.Store.{Store}
 use Rattle.end_session.specs.contracts.session.Session.{the_view}
-use Rattle.end_session.proofs.ChannelsClosed.{MayClose, close_by_room, closes, has_room, is_closed, is_told, may_close}
-use Rattle.end_session.proofs.ChannelsOpened.{first_is, on_ok}
+use Rattle.end_session.proofs.ChannelsClosed.{MayClose, close_by_room, closes, has_room, is_told, may_close}
+use Rattle.end_session.proofs.ChannelsOpened.{first_is}
 use Rattle.end_session.proofs.session.Session.close_channel.Goals as goal
 
 -- what holds inside, where there was no cause before the room
@@ -27,20 +28,15 @@ returns-in-Some-close_room-clause-refused c t gone parts st =
     (c.close_path-path.ensures ∙ ap closing_path (c.outward.ensures t gone st)) (c.len.ensures.count ∙ ap (λ (b : List ℕ). length b) c.of-pdu.ensures)
     ∙ sym (c.close_room.ensures t gone parts st) ∙ c.in-Some-close_room.is
 
-pub unreachable-requires : goal.unreachable-requires
-unreachable-requires c =
+pub end_channel-requires : goal.end_channel-requires
+end_channel-requires c =
     let w = c.self.invariant in
     let st = subst (λ s. Stands s w.0.0 w.0.1) c.self.view_is w.0.2 in
     let m = may (the_view c.self.inside) c.args.self.now w.0.0 c.args.id c.self.view_is (sym (c.close_refusal.ensures w.0.0 w.0.1 st) ∙ c.in_default.is) in
-    let u = table c.self.inside.role w.0.0 in
-    is_closed c.close.result u c.args.id m.open_is (sym c.is_err.ensures.value ∙ c.if-is_err.true) (c.close.ensures.refused u ((w.0.2).knows).channels_stand)
-
-pub set_channel-requires : goal.set_channel-requires
-set_channel-requires c =
-    let w = c.self.invariant in
-    let st = subst (λ s. Stands s w.0.0 w.0.1) c.self.view_is w.0.2 in
-    let m = may (the_view c.self.inside) c.args.self.now w.0.0 c.args.id c.self.view_is (sym (c.close_refusal.ensures w.0.0 w.0.1 st) ∙ c.in_default.is) in
-    inl (is_told c.self.inside.role w.0.0 c.args.id c.self.inside.paths.channels (((w.0.2).knows).words_are).channels_are (ap is_open_in m.open_is))
+    record {
+      takes = (table c.self.inside.role w.0.0, (w.0.2).knows.channels_stand, subst TakesData (sym m.open_is) tt);
+      place = inl (is_told c.self.inside.role w.0.0 c.args.id c.self.inside.paths.channels (((w.0.2).knows).words_are).channels_are (ap is_open_in m.open_is));
+    }
 
 pub write_on-requires-clause-room : goal.write_on-requires-clause-room
 write_on-requires-clause-room c =
@@ -53,13 +49,13 @@ write_on-requires-clause-room c =
 
 -- the end that it leaves, which stands for one act more
 stands : (c : goal.After-write_on) (t : Trace Act) (gone : Gone) → Stands c.args.self.now t gone
-    → Stands (record (the_view c.self.inside) { channels = c.close.new.self; paths = c.set_channel.new.self; held_reliable = c.drop_all.new.self; held_lossy = c.drop_all-2.new.self; outgoing = c.write_on.new.outgoing }) (t ▷ Closes c.args.id) gone
+    → Stands (record (the_view c.self.inside) { channels = c.end_channel.new.channels; paths = c.end_channel.new.paths; held_reliable = c.end_channel.new.reliable; held_lossy = c.end_channel.new.lossy; outgoing = c.write_on.new.outgoing }) (t ▷ Closes c.args.id) gone
 stands c t gone st =
     let here = subst (λ s. Stands s t gone) (sym c.self.view_is) st in
     let m = may (the_view c.self.inside) c.args.self.now t c.args.id c.self.view_is (sym (c.close_refusal.ensures t gone st) ∙ c.in_default.is) in
     let u = table c.self.inside.role t in
-    closes (the_view c.self.inside) t gone c.args.id c.close.new.self c.set_channel.new.self c.drop_all.new.self c.drop_all-2.new.self c.write_on.new.outgoing here m
-    (on_ok c.close.result (sym c.is_err.ensures.value ∙ c.if-is_err.false) (c.close.ensures.ended u (here.knows).channels_stand)) c.set_channel.ensures c.drop_all.ensures c.drop_all-2.ensures
+    closes (the_view c.self.inside) t gone c.args.id c.end_channel.new.channels c.end_channel.new.paths c.end_channel.new.reliable c.end_channel.new.lossy c.write_on.new.outgoing here m
+    (c.end_channel.ensures.ended u (here.knows).channels_stand) c.end_channel.ensures.paths c.end_channel.ensures.reliable c.end_channel.ensures.lossy
     (c.write_on.ensures ∙ ap (λ p. written_on p c.bytes.result.now c.self.inside.outgoing) (c.close_path-path.ensures ∙ ap closing_path (c.outward.ensures t gone st))
     ∙ ap (λ b. written_on (closing_path (outward c.args.id t)) b c.self.inside.outgoing) (c.bytes.ensures.bytes ∙ c.of-pdu.ensures))
 

@@ -1,4 +1,4 @@
-use Rattle.std.proofs.Common.{◌≡◌, ℕ, ◌<◌, ◌≤◌, length, refl, sym, subst, arith}
+use Rattle.std.proofs.Common.{◌≡◌, ℕ, ◌<◌, length, refl, sym, subst, arith}
 use Rattle.std.proofs.lemmas.List.Elements.{All-from_get_or}
 use Rattle.mt_base.specs.Ends.{other}
 use Rattle.mt_base.specs.Trace.{Trace, ◌▷◌}
@@ -8,7 +8,7 @@ use Rattle.end_calls.specs.Streams.{told_place}
 use Rattle.end_session.specs.Standing.{Gone, Stands}
 use Rattle.end_session.specs.contracts.session.Session.{the_view}
 use Rattle.end_session.proofs.Drawn.{fine_inside}
-use Rattle.end_session.proofs.Kept.{beside_lossy, beside_reliable, held_inside, kept_lossy, kept_reliable, not_kept, read_inside}
+use Rattle.end_session.proofs.Kept.{beside_lossy, beside_reliable, held_inside, kept_lossy, kept_reliable, not_kept, read_inside, told}
 use Rattle.end_session.proofs.Reread.{was_read}
 use Rattle.end_session.proofs.session.Session.draw_data.Goals as goal
 
@@ -59,10 +59,6 @@ returns-in-Reliable-clause-heard c t gone place is st = (c.in_default.ensures.al
 
 pub returns-in-Lossy-clause-heard : goal.returns-in-Lossy-clause-heard
 returns-in-Lossy-clause-heard c t gone place is st = (c.in_default.ensures.allowed t gone c.args.bytes.now st, by_lossy c t gone place is st)
-
--- a place within a u64 is told as it is
-told : (at : ℕ) → at ≤ 18446744073709551615 → at ≡ told_place at
-told at h = omega (arith, h)
 
 pub invariant_of-self : goal.invariant_of-self
 invariant_of-self c =

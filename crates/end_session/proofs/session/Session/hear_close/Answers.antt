@@ -2,38 +2,33 @@ use Rattle.std.proofs.Common.{◌∙◌, sym, ap, subst}
 use Rattle.mt_base.specs.Trace.{Trace, ◌▷◌}
 use Rattle.dvc_pdus.specs.Value.{Close}
 use Rattle.mt_endpoint.specs.Acts.{Act, Hears, Spoken}
+use Rattle.mt_endpoint.specs.Channels.{table}
 use Rattle.end_session.specs.Causes.{why_in}
 use Rattle.end_session.specs.Standing.{Gone, Stands}
 use Rattle.end_session.specs.contracts.session.Session.{the_view}
-use Rattle.end_session.proofs.ChannelsHeard.{ok_then}
-use Rattle.end_session.proofs.DataHeard.{IsClosedBy, close_place, closed_again, closed_now, never_refused}
+use Rattle.end_session.proofs.DataHeard.{IsClosedBy, close_place, closed_again, closed_now, takes}
 use Rattle.end_session.proofs.Heard.{fine}
 use Rattle.end_session.proofs.session.Session.hear_close.Goals as goal
 
-pub unreachable-requires : goal.unreachable-requires
-unreachable-requires c =
+pub end_channel-requires : goal.end_channel-requires
+end_channel-requires c =
     let s = the_view c.self.inside in
     let w = c.self.invariant in
-    never_refused s w.0.0 w.0.1 c.args.id c.close.result c.in_default-close.field-0 (fine s c.args.self.now w.0.0 (Spoken (Close c.args.id)) c.close_cause.result c.self.view_is (c.close_cause.ensures w.0.0 w.0.1 (subst (λ s. Stands s w.0.0 w.0.1) c.self.view_is w.0.2)) c.in_default.is) c.close.ensures.refused c.in_default-close.is w.0.2
-
-pub set_channel-requires : goal.set_channel-requires
-set_channel-requires c =
-    let s = the_view c.self.inside in
-    let w = c.self.invariant in
-    close_place s w.0.0 w.0.1 c.args.id (fine s c.args.self.now w.0.0 (Spoken (Close c.args.id)) c.close_cause.result c.self.view_is (c.close_cause.ensures w.0.0 w.0.1 (subst (λ s. Stands s w.0.0 w.0.1) c.self.view_is w.0.2)) c.in_default.is) w.0.2
+    let none = fine s c.args.self.now w.0.0 (Spoken (Close c.args.id)) c.close_cause.result c.self.view_is (c.close_cause.ensures.found w.0.0 w.0.1 (subst (λ s. Stands s w.0.0 w.0.1) c.self.view_is w.0.2)) c.in_default.is in
+    record { takes = (table s.role w.0.0, (w.0.2).knows.channels_stand, takes s.role w.0.0 c.args.id none); place = close_place s w.0.0 w.0.1 c.args.id none w.0.2 }
 
 -- the end that it leaves, which stands for one act more: it was closed here before
 again : (c : goal.Then-is_closed) (t : Trace Act) (gone : Gone) → Stands (the_view c.self.inside) t gone
-    → Stands (record (the_view c.self.inside) { channels = c.close.new.self; paths = c.set_channel.new.self; held_reliable = c.drop_all.new.self; held_lossy = c.drop_all-2.new.self }) (t ▷ Hears (Spoken (Close c.args.id))) gone
+    → Stands (record (the_view c.self.inside) { channels = c.end_channel.new.channels; paths = c.end_channel.new.paths; held_reliable = c.end_channel.new.reliable; held_lossy = c.end_channel.new.lossy }) (t ▷ Hears (Spoken (Close c.args.id))) gone
 again c t gone st =
     let s = the_view c.self.inside in
-    let by : IsClosedBy s c.args.id c.close.new.self c.set_channel.new.self c.drop_all.new.self c.drop_all-2.new.self = record {
-      ended = λ u k. ok_then c.close.result c.in-Ok.field-0 c.in-Ok.is (c.close.ensures.ended u k);
-      told_is = c.set_channel.ensures;
-      reliable_is = c.drop_all.ensures;
-      lossy_is = c.drop_all-2.ensures;
+    let by : IsClosedBy s c.args.id c.end_channel.new.channels c.end_channel.new.paths c.end_channel.new.reliable c.end_channel.new.lossy = record {
+      ended = c.end_channel.ensures.ended;
+      told_is = c.end_channel.ensures.paths;
+      reliable_is = c.end_channel.ensures.reliable;
+      lossy_is = c.end_channel.ensures.lossy;
     } in
-    closed_again s t gone c.args.id c.close.new.self c.set_channel.new.self c.drop_all.new.self c.drop_all-2.new.self c.state.result c.is_closed-is_closed.result (fine s c.args.self.now t (Spoken (Close c.args.id)) c.close_cause.result c.self.view_is (c.close_cause.ensures t gone (subst (λ s. Stands s t gone) c.self.view_is st)) c.in_default.is) by c.state.ensures c.is_closed-is_closed.ensures c.if-is_closed.true st
+    closed_again s t gone c.args.id c.end_channel.new.channels c.end_channel.new.paths c.end_channel.new.reliable c.end_channel.new.lossy c.state.result c.is_closed-is_closed.result (fine s c.args.self.now t (Spoken (Close c.args.id)) c.close_cause.result c.self.view_is (c.close_cause.ensures.found t gone (subst (λ s. Stands s t gone) c.self.view_is st)) c.in_default.is) by c.state.ensures c.is_closed-is_closed.ensures c.if-is_closed.true st
 
 pub invariant_of-self : goal.invariant_of-self
 invariant_of-self c =
@@ -42,21 +37,21 @@ invariant_of-self c =
 
 pub returns-then-is_closed-clause-heard : goal.returns-then-is_closed-clause-heard
 returns-then-is_closed-clause-heard c t gone st =
-    (c.close_cause.ensures t gone st ∙ ap why_in c.in_default.is, again c t gone (subst (λ s. Stands s t gone) (sym c.self.view_is) st))
+    (c.close_cause.ensures.found t gone st ∙ ap why_in c.in_default.is, again c t gone (subst (λ s. Stands s t gone) (sym c.self.view_is) st))
 
 -- it wasn't, and is answered
-now : (c : goal.After-close-2) (t : Trace Act) (gone : Gone) → Stands (the_view c.self.inside) t gone
-    → Stands (record (the_view c.self.inside) { channels = c.close.new.self; paths = c.set_channel.new.self; held_reliable = c.drop_all.new.self; held_lossy = c.drop_all-2.new.self; outgoing = c.close-2.new.self }) (t ▷ Hears (Spoken (Close c.args.id))) gone
+now : (c : goal.After-close) (t : Trace Act) (gone : Gone) → Stands (the_view c.self.inside) t gone
+    → Stands (record (the_view c.self.inside) { channels = c.end_channel.new.channels; paths = c.end_channel.new.paths; held_reliable = c.end_channel.new.reliable; held_lossy = c.end_channel.new.lossy; outgoing = c.close.new.self }) (t ▷ Hears (Spoken (Close c.args.id))) gone
 now c t gone st =
     let s = the_view c.self.inside in
-    let by : IsClosedBy s c.args.id c.close.new.self c.set_channel.new.self c.drop_all.new.self c.drop_all-2.new.self = record {
-      ended = λ u k. ok_then c.close.result c.in-Ok.field-0 c.in-Ok.is (c.close.ensures.ended u k);
-      told_is = c.set_channel.ensures;
-      reliable_is = c.drop_all.ensures;
-      lossy_is = c.drop_all-2.ensures;
+    let by : IsClosedBy s c.args.id c.end_channel.new.channels c.end_channel.new.paths c.end_channel.new.reliable c.end_channel.new.lossy = record {
+      ended = c.end_channel.ensures.ended;
+      told_is = c.end_channel.ensures.paths;
+      reliable_is = c.end_channel.ensures.reliable;
+      lossy_is = c.end_channel.ensures.lossy;
     } in
-    closed_now s t gone c.args.id c.close.new.self c.set_channel.new.self c.drop_all.new.self c.drop_all-2.new.self c.close-2.new.self c.state.result c.is_closed-is_closed.result c.outward-path.result c.is_silent.result
-    (fine s c.args.self.now t (Spoken (Close c.args.id)) c.close_cause.result c.self.view_is (c.close_cause.ensures t gone (subst (λ s. Stands s t gone) c.self.view_is st)) c.in_default.is) by c.state.ensures c.is_closed-is_closed.ensures c.if-is_closed.false c.outward-path.ensures c.is_silent.ensures c.close-2.ensures st
+    closed_now s t gone c.args.id c.end_channel.new.channels c.end_channel.new.paths c.end_channel.new.reliable c.end_channel.new.lossy c.close.new.self c.state.result c.is_closed-is_closed.result c.outward-path.result c.is_silent.result
+    (fine s c.args.self.now t (Spoken (Close c.args.id)) c.close_cause.result c.self.view_is (c.close_cause.ensures.found t gone (subst (λ s. Stands s t gone) c.self.view_is st)) c.in_default.is) by c.state.ensures c.is_closed-is_closed.ensures c.if-is_closed.false c.outward-path.ensures c.is_silent.ensures c.close.ensures st
 
 pub invariant_of-self-2 : goal.invariant_of-self-2
 invariant_of-self-2 c =
@@ -65,4 +60,4 @@ invariant_of-self-2 c =
 
 pub returns-clause-heard : goal.returns-clause-heard
 returns-clause-heard c t gone st =
-    (c.close_cause.ensures t gone st ∙ ap why_in c.in_default.is, now c t gone (subst (λ s. Stands s t gone) (sym c.self.view_is) st))
+    (c.close_cause.ensures.found t gone st ∙ ap why_in c.in_default.is, now c t gone (subst (λ s. Stands s t gone) (sym c.self.view_is) st))

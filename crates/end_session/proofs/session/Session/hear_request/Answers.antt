@@ -14,14 +14,14 @@ reliable_stands : (c : goal.After-ask) (t : Trace Act) (gone : Gone) → Stands 
     → Stands (record (the_view c.self.inside) { reliable = c.ask.new.self }) (t ▷ Hears (TunnelAsked c.args.id c.args.kind c.args.cookie)) gone
 reliable_stands c t gone st =
     asked_reliable (the_view c.self.inside) t gone c.args.id c.args.kind c.args.cookie c.ask.new.self c.in-Reliable.is
-    (subst (λ (s : Store). main_fault s.role t (TunnelAsked c.args.id c.args.kind c.args.cookie) ≡ None) (sym c.self.view_is) (c.request_cause.ensures t gone c.args.id c.args.cookie st ∙ ap why_in c.in_default.is))
+    (subst (λ (s : Store). main_fault s.role t (TunnelAsked c.args.id c.args.kind c.args.cookie) ≡ None) (sym c.self.view_is) (c.request_cause.ensures.found t gone c.args.id c.args.cookie st ∙ ap why_in c.in_default.is))
     c.ask.ensures (subst (λ s. Stands s t gone) (sym c.self.view_is) st)
 
 lossy_stands : (c : goal.After-ask-in-Lossy) (t : Trace Act) (gone : Gone) → Stands c.args.self.now t gone
     → Stands (record (the_view c.self.inside) { lossy = c.ask-in-Lossy.new.self }) (t ▷ Hears (TunnelAsked c.args.id c.args.kind c.args.cookie)) gone
 lossy_stands c t gone st =
     asked_lossy (the_view c.self.inside) t gone c.args.id c.args.kind c.args.cookie c.ask-in-Lossy.new.self c.in-Lossy.is
-    (subst (λ (s : Store). main_fault s.role t (TunnelAsked c.args.id c.args.kind c.args.cookie) ≡ None) (sym c.self.view_is) (c.request_cause.ensures t gone c.args.id c.args.cookie st ∙ ap why_in c.in_default.is))
+    (subst (λ (s : Store). main_fault s.role t (TunnelAsked c.args.id c.args.kind c.args.cookie) ≡ None) (sym c.self.view_is) (c.request_cause.ensures.found t gone c.args.id c.args.cookie st ∙ ap why_in c.in_default.is))
     c.ask-in-Lossy.ensures (subst (λ s. Stands s t gone) (sym c.self.view_is) st)
 
 pub invariant_of-self : goal.invariant_of-self
@@ -35,7 +35,7 @@ invariant_of-self-in-Lossy c =
     ((w.0.0 ▷ Hears (TunnelAsked c.args.id c.args.kind c.args.cookie), w.0.1, lossy_stands c w.0.0 w.0.1 (subst (λ s. Stands s w.0.0 w.0.1) c.self.view_is w.0.2)), w.1)
 
 pub returns-in-Reliable-clause-heard : goal.returns-in-Reliable-clause-heard
-returns-in-Reliable-clause-heard c t gone st = (c.request_cause.ensures t gone c.args.id c.args.cookie st ∙ ap why_in c.in_default.is, reliable_stands c t gone st)
+returns-in-Reliable-clause-heard c t gone st = (c.request_cause.ensures.found t gone c.args.id c.args.cookie st ∙ ap why_in c.in_default.is, reliable_stands c t gone st)
 
 pub returns-in-Lossy-clause-heard : goal.returns-in-Lossy-clause-heard
-returns-in-Lossy-clause-heard c t gone st = (c.request_cause.ensures t gone c.args.id c.args.cookie st ∙ ap why_in c.in_default.is, lossy_stands c t gone st)
+returns-in-Lossy-clause-heard c t gone st = (c.request_cause.ensures.found t gone c.args.id c.args.cookie st ∙ ap why_in c.in_default.is, lossy_stands c t gone st)
