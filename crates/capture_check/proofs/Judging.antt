@@ -13,7 +13,7 @@ use Rattle.capture_check.specs.declared.entry.Entry.{Entry}
 use Rattle.capture_check.specs.declared.entry.Entry.TheVariants.{Issue, Open, Sent, Got, Main, Word, Out, In}
 use Rattle.mt_base.specs.Ends.{same_kind, same_role}
 use Rattle.capture_check.specs.Numbers.{is_out, is_out_of, HasOut, late, CountsUp, NamesOut, IsTimely}
-use Rattle.capture_check.specs.Rules.{Rule, Numbering, Naming, Lateness, Layouts, Messages, number_of, Asks, Keeps, Hold, FirstBreak, BreaksRule}
+use Rattle.capture_check.specs.Rules.{Rule, Numbering, Naming, Lateness, Layouts, Messages, Tellings, number_of, Asks, Keeps, Hold, FirstBreak, BreaksRule}
 use Rattle.capture_check.specs.GivenSoFar.{Given, places, given_of, with_entry, no_datagrams, arrival_rule, rule_broken}
 use Rattle.capture_check.proofs.Stepping.{snoc, at_place, one_further}
 use Rattle.capture_check.proofs.Places.{bit, how_many, counted, one, places_from, places_from-cons, places_from-append, length-places_from, how_many-append, given_by, places_by, given_of_by, none_given, one_more}
@@ -32,7 +32,7 @@ kinds_same Lossy Lossy h = refl
 kinds_same Reliable Lossy h = cc
 kinds_same Lossy Reliable h = cc
 
-itself : (side : Role) (kind : Kind) (number : ℕ) (datagram : List ℕ) → is_out_of side kind (Out side kind number datagram) ≡ true
+pub itself : (side : Role) (kind : Kind) (number : ℕ) (datagram : List ℕ) → is_out_of side kind (Out side kind number datagram) ≡ true
 itself Server Reliable number datagram = refl
 itself Server Lossy number datagram = refl
 itself Client Reliable number datagram = refl
@@ -140,6 +140,7 @@ three before entry counts names timely Naming few = names
 three before entry counts names timely Lateness few = timely
 three before entry counts names timely Layouts few = absurd (omega (arith, few))
 three before entry counts names timely Messages few = absurd (omega (arith, few))
+three before entry counts names timely Tellings few = absurd (omega (arith, few))
 
 below_one : (before : List Entry) (entry : Entry) (lower : Rule) → number_of lower < 1 → Asks lower before entry
 below_one before entry Numbering few = absurd (omega (arith, few))
@@ -147,6 +148,7 @@ below_one before entry Naming few = absurd (omega (arith, few))
 below_one before entry Lateness few = absurd (omega (arith, few))
 below_one before entry Layouts few = absurd (omega (arith, few))
 below_one before entry Messages few = absurd (omega (arith, few))
+below_one before entry Tellings few = absurd (omega (arith, few))
 
 below_two : (before : List Entry) (entry : Entry) → CountsUp before entry → (lower : Rule) → number_of lower < 2 → Asks lower before entry
 below_two before entry counts Numbering few = counts
@@ -154,6 +156,7 @@ below_two before entry counts Naming few = absurd (omega (arith, few))
 below_two before entry counts Lateness few = absurd (omega (arith, few))
 below_two before entry counts Layouts few = absurd (omega (arith, few))
 below_two before entry counts Messages few = absurd (omega (arith, few))
+below_two before entry counts Tellings few = absurd (omega (arith, few))
 
 below_three : (before : List Entry) (entry : Entry) → CountsUp before entry → NamesOut before entry → (lower : Rule) → number_of lower < 3 → Asks lower before entry
 below_three before entry counts names Numbering few = counts
@@ -161,6 +164,7 @@ below_three before entry counts names Naming few = names
 below_three before entry counts names Lateness few = absurd (omega (arith, few))
 below_three before entry counts names Layouts few = absurd (omega (arith, few))
 below_three before entry counts names Messages few = absurd (omega (arith, few))
+below_three before entry counts names Tellings few = absurd (omega (arith, few))
 
 first : (before : List Entry) (entry : Entry) → ¬ CountsUp before entry → BreaksRule 3 before entry 1
 first before entry broken = record { rule = Numbering; number_is = refl; within = omega arith; broken = broken; least = below_one before entry }

@@ -11,3 +11,7 @@ pub mod Openings
 pub mod Following
 pub mod Flowing
 pub mod Delivering
+pub mod Arriving
+pub mod Telling
+pub mod Flagged
+pub mod Taken

@@ -4,7 +4,7 @@ use Rattle.std.proofs.Math.Seq.{take-append_seam}
 use Rattle.capture_check.specs.declared.entry.Entry.{Entry}
 use Rattle.capture_check.specs.declared.judgement.Judgement.{Judgement}
 use Rattle.capture_check.specs.declared.judgement.Judgement.TheVariants.{Holds, Breaks}
-use Rattle.capture_check.specs.Rules.{Rule, Numbering, Naming, Lateness, Layouts, Messages, number_of, Asks, Keeps, Hold, FirstBreak, Judged}
+use Rattle.capture_check.specs.Rules.{Rule, Numbering, Naming, Lateness, Layouts, Messages, Tellings, number_of, Asks, Keeps, Hold, FirstBreak, Judged}
 use Rattle.capture_check.specs.Passes.{Obey, FirstAgainst, Finds, unbroken, with_found, IsWithin}
 use Rattle.capture_check.proofs.Stepping.{snoc, at_place, one_further}
 
@@ -137,6 +137,7 @@ layouts_next Naming few = inl (omega arith)
 layouts_next Lateness few = inl (omega arith)
 layouts_next Layouts few = inr refl
 layouts_next Messages few = absurd (omega (arith, few))
+layouts_next Tellings few = absurd (omega (arith, few))
 
 pub messages_next : IsNext 4 Messages
 messages_next Numbering few = inl (omega arith)
@@ -144,3 +145,20 @@ messages_next Naming few = inl (omega arith)
 messages_next Lateness few = inl (omega arith)
 messages_next Layouts few = inl (omega arith)
 messages_next Messages few = inr refl
+messages_next Tellings few = absurd (omega (arith, few))
+
+pub tellings_next : IsNext 5 Tellings
+tellings_next Numbering few = inl (omega arith)
+tellings_next Naming few = inl (omega arith)
+tellings_next Lateness few = inl (omega arith)
+tellings_next Layouts few = inl (omega arith)
+tellings_next Messages few = inl (omega arith)
+tellings_next Tellings few = inr refl
+
+-- the entries that were not judged to break a rule keep each of the rules
+pub unbroken_hold : (most : ℕ) (entries : List Entry) (judgement : Judgement) → Judged most entries judgement → Hold most (unbroken entries judgement)
+unbroken_hold most entries Holds judged = judged
+unbroken_hold most entries (Breaks line number) f = subst (Hold most) (sym (those_before most entries line number f)) f.kept
+
+pub unbroken_obey : (most : ℕ) (rule : Rule) (entries : List Entry) (judgement : Judgement) → number_of rule ≤ most → Judged most entries judgement → Obey rule (unbroken entries judgement)
+unbroken_obey most rule entries judgement few judged before entry after parts = unbroken_hold most entries judgement judged before entry after parts rule few

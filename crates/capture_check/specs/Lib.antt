@@ -7,6 +7,9 @@ pub mod LayoutsSoFar
 pub mod Messages
 pub mod Flows
 pub mod FlowsSoFar
+pub mod Tellings
+pub mod Arrivals
+pub mod TellingsSoFar
 pub mod Rules
 pub mod Passes
 pub mod GivenSoFar

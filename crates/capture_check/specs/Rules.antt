@@ -6,6 +6,7 @@ use Rattle.capture_check.specs.declared.judgement.Judgement.TheVariants.{Holds, 
 use Rattle.capture_check.specs.Numbers.{CountsUp, NamesOut, IsTimely}
 use Rattle.capture_check.specs.Layouts.{IsReadable}
 use Rattle.capture_check.specs.Messages.{WasSent}
+use Rattle.capture_check.specs.Tellings.{TellsWhatCame}
 
 -- the rules, by what they speak of
 pub data Rule : Type 0 where
@@ -14,6 +15,7 @@ pub data Rule : Type 0 where
   Lateness : Rule
   Layouts : Rule
   Messages : Rule
+  Tellings : Rule
 
 abbrev pub number_of : Rule → ℕ
 number_of Numbering = 1
@@ -21,6 +23,7 @@ number_of Naming = 2
 number_of Lateness = 3
 number_of Layouts = 4
 number_of Messages = 5
+number_of Tellings = 6
 
 -- what a rule asks of an entry, from it and the entries before it
 abbrev pub Asks : Rule → List Entry → Entry → Type 0
@@ -29,6 +32,7 @@ Asks Naming before entry = NamesOut before entry
 Asks Lateness before entry = IsTimely before entry
 Asks Layouts before entry = IsReadable before entry
 Asks Messages before entry = WasSent before entry
+Asks Tellings before entry = TellsWhatCame before entry
 
 -- an entry keeps the rules up to this number
 abbrev pub Keeps : ℕ → List Entry → Entry → Type 0

@@ -1,10 +1,14 @@
 //! The layouts that links agreed on so far.
 
-ghost use Rattle.std.specs.Prelude.{◌↔◌, ◌≡◌, ◌++◌, ◌∷◌, [], List, IsTrue};
+ghost use Rattle.std.specs.Prelude.{◌↔◌, ◌≡◌, ◌++◌, ◌∷◌, [], ℕ, List, IsTrue, IsFalse};
 ghost use Rattle.capture_check.specs.declared.entry.Entry.{Entry};
+ghost use Rattle.capture_check.specs.declared.layout.Layout.{Layout};
 ghost use Rattle.capture_check.specs.Layouts.{IsReadable};
 ghost use Rattle.capture_check.specs.LayoutsSoFar.{AreAgreed, ReadsNow, layout_of};
+ghost use Rattle.capture_check.specs.Tellings.{HasLayout, Tells};
+ghost use Rattle.capture_check.specs.TellingsSoFar.{HasJust, MayTell, ShowsJustAfter};
 
+use crate::came::NumbersCame;
 use crate::entry::Entry;
 use crate::layout::{Layout, answered, opening};
 use mt_base::Kind;
@@ -58,6 +62,43 @@ impl AgreedLayouts {
         match self.layout(kind) {
             Some(layout) => layout.reads(datagram),
             None => false,
+        }
+    }
+
+    /// The layout of a datagram that is no opening.
+    fn layout_for(self, kind: Kind, datagram: &[u8]) -> Option<Layout>
+        ensures { (before : List Entry) → AreAgreed self before
+            → HasJust kind before datagram.now result }
+    {
+        if opening(datagram).is_some() {
+            return None;
+        }
+        self.layout(kind)
+    }
+
+    /// The number that a datagram shows.
+    pub(crate) fn shown(self, kind: Kind, datagram: &[u8]) -> Option<u64>
+        ensures { (before : List Entry) → AreAgreed self before
+            → ShowsJustAfter kind before datagram.now result }
+    {
+        match self.layout_for(kind, datagram) {
+            Some(layout) => layout.shown(datagram),
+            None => None,
+        }
+    }
+
+    /// Whether a datagram tells only numbers as received that came, or SeqNum 0 where none came.
+    pub(crate) fn tells_what_came(self, kind: Kind, datagram: &[u8], came: &NumbersCame) -> bool
+        ensures kept { (before : List Entry) → AreAgreed self before → IsTrue result
+            → (layout : Layout) (n : ℕ) → HasLayout kind before datagram.now layout → Tells layout datagram.now n
+            → MayTell came.now layout datagram.now n }
+        ensures broken { (before : List Entry) → AreAgreed self before → IsFalse result
+            → (layout : Layout) × (n : ℕ) × HasLayout kind before datagram.now layout × Tells layout datagram.now n
+            × ¬ MayTell came.now layout datagram.now n }
+    {
+        match self.layout_for(kind, datagram) {
+            Some(layout) => layout.tells_what_came(datagram, came),
+            None => true,
         }
     }
 

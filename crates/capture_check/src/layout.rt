@@ -9,7 +9,7 @@ use udp1_packets::{Body1, Extension, Syn1, read1};
 use udp2_packets::read2;
 
 /// The greatest datagram of the second layout.
-const GREATEST: usize = 1232;
+pub(crate) const GREATEST: usize = 1232;
 
 /// The flag of an extension that says that its version is valid.
 const VALID: u16 = 0x0001;

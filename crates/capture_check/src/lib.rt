@@ -7,12 +7,16 @@
 //! in `udp1_packets` and `udp2_packets`. What the crates above use is the relation between a text
 //! and the entries that its lines spell, `ReadsAs`, that [`read_capture`] gives exactly those, and
 //! what a capture is judged to be by the rules up to a number, `Judged`, which [`check_numbers`],
-//! [`check_datagrams`] and [`check_messages`] answer: the first line that breaks one of these rules,
-//! and the least rule that it breaks. Each of the last two makes a pass of its own over the lines
-//! that the passes before it found unbroken.
+//! [`check_datagrams`], [`check_messages`] and [`check_tellings`] answer: the first line that breaks
+//! one of these rules, and the least rule that it breaks. Each of the last three makes a pass of its
+//! own over the lines that the passes before it found unbroken. The flags of vectors in datagrams are
+//! those of `ack_vector` and `coded_vector`.
 #![tactic(auto)]
 
 mod agreed;
+mod arrivals;
+mod arrived;
+mod came;
 mod capture;
 mod datagrams;
 mod deliveries;
@@ -27,6 +31,9 @@ mod layout;
 mod line;
 mod messages;
 mod numbers;
+mod shown;
+mod tellings;
+mod told;
 
 pub use capture::{Capture, read_capture};
 pub use datagrams::check_datagrams;
@@ -35,3 +42,4 @@ pub use judgement::Judgement;
 pub use laws::{one_answer, one_judgement, one_spelling};
 pub use messages::check_messages;
 pub use numbers::check_numbers;
+pub use tellings::check_tellings;

@@ -1,4 +1,6 @@
-use capture_check::{Judgement, check_datagrams, check_messages, check_numbers, read_capture};
+use capture_check::{
+    Judgement, check_datagrams, check_messages, check_numbers, check_tellings, read_capture,
+};
 use std::test::*;
 
 /// A SYN (MS-RDPEUDP section 2.2) without an extension.
@@ -181,6 +183,77 @@ fn the_first_line_comes_before_the_least_rule(rt: HostRuntime) -> Result<(), Fai
     ];
     for (text, line, rule) in rows {
         assert_eq!(rt; heard(rt, text)?, Judgement::Breaks { line, rule });
+    }
+    Ok(())
+}
+
+/// Data of the first layout: part 1.
+const FIRST_PART: &str = "0000000000400008000000010000000141";
+
+/// A packet of the first layout whose vector tells number 1.
+const FIRST_TELLS_1: &str = "000000010040000400010100";
+
+/// An acknowledgement of the second layout: SeqNum 0.
+const ACKS_0: &str = "00016000000000e00000";
+
+/// The same of SeqNum 1.
+const ACKS_1: &str = "00016001000000e00000";
+
+/// The same of SeqNum 1 with one delayed number.
+const ACKS_1_AND_0: &str = "00016001000000e0000100";
+
+/// A vector of the second layout, which tells number 1.
+const SECOND_TELLS_1: &str = "00086001008100e00000c1";
+
+/// What the rules up to that of tellings say of a session: the server gives an answer, the client
+/// gives a datagram, and it comes where `comes` says so; then the server gives one that tells.
+fn told(
+    rt: HostRuntime,
+    answer: &str,
+    given: &str,
+    comes: bool,
+    tells: &str,
+) -> Result<Judgement, Fail> {
+    let arrival = if comes { "in client lossy 0\n" } else { "" };
+    let text = format!(in rt.alloc();
+        "out server lossy 0 {answer}\nout client lossy 0 {given}\n{arrival}out server lossy 1 {tells}\n"
+    )?;
+    let capture = read_capture(rt.alloc(), text.as_bytes())?;
+    let judgement = check_tellings(rt.alloc(), &capture)?;
+    Ok(judgement)
+}
+
+#[test]
+fn numbers_that_came_are_told(rt: HostRuntime) -> Result<(), Fail> {
+    let rows = [
+        (ANSWER, FIRST_PART, true, FIRST_TELLS_1),
+        (ANSWER, FIRST_PART, false, FIRST),
+        (ANSWER_3, SECOND, true, ACKS_1),
+        (ANSWER_3, SECOND, true, SECOND_TELLS_1),
+        (ANSWER_3, SECOND, false, ACKS_0),
+        (ANSWER_3, SYN, true, ACKS_0),
+    ];
+    for (answer, given, comes, tells) in rows {
+        assert_eq!(rt; told(rt, answer, given, comes, tells)?, Judgement::Holds);
+    }
+    Ok(())
+}
+
+#[test]
+fn a_number_that_did_not_come_breaks_rule_6(rt: HostRuntime) -> Result<(), Fail> {
+    let rows = [
+        (ANSWER, FIRST_PART, false, FIRST_TELLS_1, 3),
+        (ANSWER, FIRST, true, FIRST_TELLS_1, 4),
+        (ANSWER_3, SECOND, false, ACKS_1, 3),
+        (ANSWER_3, SECOND, false, SECOND_TELLS_1, 3),
+        (ANSWER_3, SECOND, true, ACKS_0, 4),
+        (ANSWER_3, SECOND, true, ACKS_1_AND_0, 4),
+    ];
+    for (answer, given, comes, tells, line) in rows {
+        assert_eq!(rt;
+            told(rt, answer, given, comes, tells)?,
+            Judgement::Breaks { line, rule: 6 }
+        );
     }
     Ok(())
 }
