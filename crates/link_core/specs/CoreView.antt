@@ -1,5 +1,5 @@
 -- What a link of whatever version stands for.
-use Rattle.std.specs.Prelude.{◌⊎◌, ◌≡◌, ℕ, ◌==◌, Bool, [], None, if◌then◌else◌}
+use Rattle.std.specs.Prelude.{◌⊎◌, ◌≡◌, ℕ, ◌==◌, Bool, if◌then◌else◌}
 use Rattle.mt_base.specs.Trace.{Trace}
 use Rattle.carrier.specs.declared.state.LinkState.{LinkState}
 use Rattle.carrier.specs.Entries.{Entry}
@@ -29,44 +29,15 @@ pub record Core : Type 0 where
   pub kind : LinkLayout
   pub machine : Machine
 
--- one of the machines is at work
-abbrev pub IsAtWork : AnyCore → Type 0
-IsAtWork (any.First m) = Unit {0}
-IsAtWork (any.Second m) = Unit {0}
-IsAtWork any.Moved = ⊥
-
 -- which layout its datagrams have
 abbrev pub kind_in : AnyCore → LinkLayout
 kind_in (any.First m) = First
 kind_in (any.Second m) = Second
-kind_in any.Moved = First
-
--- what stands for a machine where none is at work; none is like that
-abbrev pub no_machine : Machine
-no_machine = record {
-  moment = 0;
-  sender = record {
-    config = record { own = 0; wait = 0 };
-    outbox = record { first = 0; waiting = []; base = 0; cut = 0; made = 0; told = 0; second = 0; third = 0; flights = []; carried = [] };
-    peer_window = 0;
-    timer = record { start = 0; expiries = 0 };
-  };
-  receiver = record {
-    config = record { peer = 0; delay = 0 };
-    inbox = record { first = 0; passed = 0; lengths = []; used = 0; ordered = []; greatest = None; slots = [] };
-    marks = record { greatest = None; recent = [] };
-    last = None;
-    floor = 0;
-    owed = 0;
-    since = 0;
-  };
-}
 
 -- the machine at work
 abbrev pub machine_in : AnyCore → Machine
 machine_in (any.First m) = m
 machine_in (any.Second m) = m
-machine_in any.Moved = no_machine
 
 abbrev pub core_of : AnyCore → Core
 core_of c = record { kind = kind_in c; machine = machine_in c }

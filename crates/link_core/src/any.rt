@@ -10,6 +10,4 @@ pub enum AnyCore {
     First(Udp1Core),
     /// In version 0x0101.
     Second(Udp2Core),
-    /// None, for the moment in which its memory goes over to another one.
-    Moved,
 }

@@ -13,16 +13,16 @@ ghost use Rattle.carrier.specs.States.{give_answer, written};
 ghost use Rattle.carrier.specs.declared.state.LinkState.TheVariants.{Open, Closed as IsClosed};
 ghost use Rattle.carrier.specs.declared.state.Took.TheVariants.{Ignored};
 ghost use Rattle.carrier.specs.declared.state.Reason.TheVariants as reason;
-ghost use Rattle.link_core.specs.CoreView.{IsAtWork, IsVersion, Stands, core_of, kind_in, kind_of, layout_of, link_layout, machine_in, condition_of};
+ghost use Rattle.link_core.specs.CoreView.{IsVersion, Stands, core_of, kind_in, kind_of, layout_of, link_layout, machine_in, condition_of};
 
 use crate::any::AnyCore;
 use crate::layout::LinkLayout;
 use carrier::{Carrier, GiveRefusal, LinkState, Took};
+use core::mem::replace_with;
 use link_machine::{Machine, WireLayout};
 use mt_base::NoMemory;
 use std::alloc::Global;
 use std::marker::Model;
-use std::mem::replace;
 use udp1_core::Udp1Core;
 use udp2_core::Udp2Core;
 
@@ -38,13 +38,11 @@ pub struct LinkCore {
 }
 
 impl Model for LinkCore {
-    ghost use Rattle.link_core.specs.CoreView.{Core, IsAtWork, kind_in, machine_in};
+    ghost use Rattle.link_core.specs.CoreView.{Core, kind_in, machine_in};
 
     ghost Value = { Core };
 
     ghost view = { λ c. record { kind = kind_in c.core; machine = machine_in c.core } };
-
-    ghost invariant = { λ c. IsAtWork c.core };
 }
 
 impl LinkCore {
@@ -95,7 +93,6 @@ impl LinkCore {
         match &mut self.core {
             AnyCore::First(core) => core.start(0, 0, VERSION_2),
             AnyCore::Second(core) => core.start(),
-            AnyCore::Moved => unreachable!(),
         }
     }
 
@@ -113,15 +110,10 @@ impl LinkCore {
             length self.old.machine.sender.outbox.waiting }
         ensures open { condition_of self.new ≡ Open }
     {
-        self.core = match replace(&mut self.core, AnyCore::Moved) {
-            AnyCore::First(core) => {
-                started(core.into_machine(), own_initial, peer_initial, version)
-            }
-            AnyCore::Second(core) => {
-                started(core.into_machine(), own_initial, peer_initial, version)
-            }
-            AnyCore::Moved => unreachable!(),
+        let restart = |core: AnyCore, version: u16| {
+            (restarted(core, own_initial, peer_initial, version), ())
         };
+        replace_with(&mut self.core, version, restart);
     }
 
     /// Makes so many tellings more owed.
@@ -138,8 +130,27 @@ impl LinkCore {
         match &mut self.core {
             AnyCore::First(core) => core.owe(count),
             AnyCore::Second(core) => core.owe(count),
-            AnyCore::Moved => unreachable!(),
         }
+    }
+}
+
+/// A link of this version on the memory of the machine at work. It is as a new one that was given the
+/// bytes which were given to that one and not cut into parts.
+fn restarted(core: AnyCore, own_initial: u32, peer_initial: u32, version: u16) -> AnyCore
+    requires { IsVersion version }
+    ensures stands { let waiting = (machine_in core).sender.outbox.waiting in
+        IsBytes waiting → Stands (core_of result) (Start ▷ Gave waiting) }
+    ensures empty { (machine_in core).sender.outbox.waiting ≡ [] → Stands (core_of result) Start }
+    ensures layout { layout_of (core_of result) ≡ link_layout own_initial peer_initial version }
+    ensures kind { kind_in result ≡ kind_of version }
+    ensures left { left_of (machine_in result).receiver.inbox ≡ [] }
+    ensures queued { queued_of (machine_in result).sender.outbox ≡
+        length (machine_in core).sender.outbox.waiting }
+    ensures open { condition_of (core_of result) ≡ Open }
+{
+    match core {
+        AnyCore::First(core) => started(core.into_machine(), own_initial, peer_initial, version),
+        AnyCore::Second(core) => started(core.into_machine(), own_initial, peer_initial, version),
     }
 }
 
@@ -161,7 +172,6 @@ fn started<L: WireLayout>(
     ensures queued { queued_of (machine_in result).sender.outbox ≡
         length machine.sender.outbox.waiting }
     ensures open { condition_of (core_of result) ≡ Open }
-    ensures works { IsAtWork result }
 {
     match LinkLayout::of_version(version) {
         LinkLayout::First => AnyCore::First(Udp1Core::on_machine(
@@ -207,7 +217,6 @@ impl Carrier for LinkCore {
         match &mut self.core {
             AnyCore::First(core) => core.input(now, datagram),
             AnyCore::Second(core) => core.input(now, datagram),
-            AnyCore::Moved => unreachable!(),
         }
     }
 
@@ -231,7 +240,6 @@ impl Carrier for LinkCore {
         match &mut self.core {
             AnyCore::First(core) => core.poll(now, out),
             AnyCore::Second(core) => core.poll(now, out),
-            AnyCore::Moved => unreachable!(),
         }
     }
 
@@ -254,7 +262,6 @@ impl Carrier for LinkCore {
         match &mut self.core {
             AnyCore::First(core) => core.give(bytes),
             AnyCore::Second(core) => core.give(bytes),
-            AnyCore::Moved => unreachable!(),
         }
     }
 
@@ -279,7 +286,6 @@ impl Carrier for LinkCore {
         match &mut self.core {
             AnyCore::First(core) => core.pull(out),
             AnyCore::Second(core) => core.pull(out),
-            AnyCore::Moved => unreachable!(),
         }
     }
 
@@ -291,7 +297,6 @@ impl Carrier for LinkCore {
         match &self.core {
             AnyCore::First(core) => core.queued(),
             AnyCore::Second(core) => core.queued(),
-            AnyCore::Moved => unreachable!(),
         }
     }
 
@@ -299,7 +304,6 @@ impl Carrier for LinkCore {
         match &self.core {
             AnyCore::First(core) => core.next_due(),
             AnyCore::Second(core) => core.next_due(),
-            AnyCore::Moved => unreachable!(),
         }
     }
 
@@ -307,7 +311,6 @@ impl Carrier for LinkCore {
         match &self.core {
             AnyCore::First(core) => core.state(),
             AnyCore::Second(core) => core.state(),
-            AnyCore::Moved => unreachable!(),
         }
     }
 

@@ -9,3 +9,4 @@ pub mod Written
 pub mod Inputs
 pub mod Dues
 pub mod OfTrace
+pub mod FlagLemmas

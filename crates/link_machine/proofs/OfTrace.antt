@@ -1,5 +1,5 @@
 -- What a machine's value says of the trace that it stands for.
-use Rattle.std.proofs.Common.{◌≡◌, ℕ, ◌+◌, ◌<◌, ◌≤◌, nat_lt, Bool, true, false, length, drop, if◌then◌else◌, refl, sym, ap, subst, ◌∙◌, arith}
+use Rattle.std.proofs.Common.{◌≡◌, ℕ, ◌≤◌, nat_lt, Bool, true, false, length, drop, if◌then◌else◌, refl, ap, ◌∙◌, arith}
 use Rattle.std.proofs.lemmas.Bool.{ltb-true}
 use Rattle.mt_base.specs.Trace.{Trace}
 use Rattle.mt_windows.specs.Arrived.{passed}
@@ -8,7 +8,6 @@ use Rattle.mt_windows.proofs.Order.{receives_left}
 use Rattle.carrier.specs.Entries.{Entry, pulled}
 use Rattle.carrier.specs.Receiving.{accepted, received}
 use Rattle.carrier.specs.Sending.{is_closed, timer}
-use Rattle.carrier.specs.declared.state.LinkState.{LinkState}
 use Rattle.carrier.specs.declared.state.LinkState.TheVariants.{Open, Closed}
 use Rattle.carrier.proofs.links.Closes.{expiries_bound}
 use Rattle.link_machine.specs.Wire.{Wire}

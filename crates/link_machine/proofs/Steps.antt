@@ -1,5 +1,5 @@
 -- What each call does to the relation between a machine and its trace.
-use Rattle.std.proofs.Common.{◌≡◌, ℕ, ◌+◌, ◌≤◌, ◌&&◌, Bool, true, false, not, min, max, List, [], ◌∷◌, ◌++◌, length, take, drop, replicate, Option, Some, None, Result, Ok, OnOk, nat_lt, is_some, zero, suc, append-nil, length-append, subst₂, ap₂, refl, sym, ap, ◌∙◌, subst, take-add, length-take, length-take-le, arith, if◌then◌else◌}
+use Rattle.std.proofs.Common.{◌≡◌, ℕ, ◌+◌, ◌≤◌, ◌&&◌, Bool, true, false, not, min, max, List, [], ◌∷◌, ◌++◌, length, take, drop, replicate, Option, Some, None, Result, Ok, OnOk, nat_lt, is_some, zero, suc, append-nil, length-append, subst₂, refl, sym, ap, ◌∙◌, subst, take-add, length-take, length-take-le, arith, if◌then◌else◌}
 use Rattle.std.proofs.lemmas.List.{take_min}
 use Rattle.mt_base.specs.Trace.{Trace, ◌▷◌}
 use Rattle.mt_windows.specs.Arrived.{passed}

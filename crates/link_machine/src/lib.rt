@@ -4,7 +4,8 @@
 //! A layout says by [`WireLayout`] what is its own: how a datagram is read, what a telling settles,
 //! and how a datagram is spelled. Its ghost members give the layout that a link has
 //! (`specs/Wire.antt`), and what is asked of it stands in `specs/WireLaw.antt`. A part's bytes are
-//! written once, behind the head of its datagram.
+//! written once, behind the head of its datagram; what is told is written flag by flag
+//! ([`write_flags`]).
 //!
 //! Below it stand `mt_windows` with the windows of parts, and `carrier` with what a link is.
 #![tactic(auto)]
@@ -12,6 +13,7 @@
 mod choice;
 mod config;
 mod contents;
+mod flags;
 mod laws;
 mod load;
 mod machine;
@@ -24,6 +26,7 @@ mod wire;
 pub use choice::Choice;
 pub use config::{ReceiverConfig, SenderConfig};
 pub use contents::Contents;
+pub use flags::{FlagWriter, write_flags};
 pub use laws::a_machine_is_its_trace;
 pub use load::Load;
 pub use machine::Machine;

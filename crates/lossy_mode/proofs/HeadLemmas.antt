@@ -5,9 +5,11 @@ use Rattle.std.proofs.lemmas.Bool.Decides.{nat_tests}
 use Rattle.mt_windows.specs.Noted.{greatest_of, is_noted, is_seen}
 use Rattle.mt_windows.specs.declared.limits.TheConstants.{PART, TELL, WINDOW}
 use Rattle.carrier.specs.declared.limits.TheConstants.{WITH_TELLING}
-use Rattle.udp1_core.specs.FirstLayout.{bytes_left_out, first_layout, flags_from, packet_with, told_from, vector_in}
+use Rattle.link_machine.specs.Flags.{flags_from}
+use Rattle.link_machine.proofs.FlagLemmas.{length-flags_from}
+use Rattle.udp1_core.specs.FirstLayout.{bytes_left_out, first_layout, packet_with, told_from, vector_in}
 use Rattle.udp1_core.proofs.Heads.{head_with}
-use Rattle.udp1_core.proofs.ReadBack.{IsShort, length-flags_from}
+use Rattle.udp1_core.proofs.ReadBack.{IsShort}
 use Rattle.udp1_core.proofs.Sizes.{datagram_size}
 use Rattle.lossy_mode.specs.LossyView.{both_numbers}
 use Rattle.lossy_mode.specs.Thin.{Got, datagram_of, last_number, next_load, part_datagram, telling_of}

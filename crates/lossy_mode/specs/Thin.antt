@@ -17,7 +17,8 @@ use Rattle.carrier.specs.Law.{IsBytes}
 use Rattle.carrier.specs.Layout.{Layout, Reading, Refuses, Shows, Shown, Load, Empty, Carries, Dummy, Correction, Telling, Upto, Carried, Datagram, bounded}
 use Rattle.carrier.specs.PerfectThin.{handed, first_part, part_answer}
 use Rattle.carrier.specs.Receiving.{floor_of, is_telling, reading}
-use Rattle.udp1_core.specs.FirstLayout.{flags_from, modulus, shows, told_from}
+use Rattle.link_machine.specs.Flags.{flags_from}
+use Rattle.udp1_core.specs.FirstLayout.{modulus, shows, told_from}
 use Rattle.udp_open.specs.declared.settings.OpenSettings.{OpenSettings}
 use Rattle.udp_open.specs.declared.agreement.Agreement.{Agreement}
 use Rattle.udp_open.specs.Handshake.{agreed, closes, is_closed, opening_answered, opening_due}

@@ -5,21 +5,18 @@ ghost use Rattle.mt_windows.specs.Noted.{is_seen};
 ghost use Rattle.mt_windows.specs.NotedView.{Notes};
 ghost use Rattle.ack_vector.specs.Elements.{IsGood};
 ghost use Rattle.ack_vector.specs.Longest.{elements_of};
+ghost use Rattle.link_machine.specs.Flags.{flags_from};
 ghost use Rattle.udp1_packets.specs.Views.{packet_of};
 ghost use Rattle.udp1_core.specs.ContentsView.{head_body};
-ghost use Rattle.udp1_core.specs.FirstLayout.{first_wire, flags_from, low, told_from};
+ghost use Rattle.udp1_core.specs.FirstLayout.{first_wire, low, told_from};
 ghost use Rattle.lossy_mode.specs.LossyView.{both_numbers};
 ghost use Rattle.lossy_mode.specs.Thin.{last_number, telling_of};
 
-use ack_vector::RunWriter;
 use carrier::WITH_TELLING;
-use mt_base::{Out, W32, Width};
+use mt_base::{W32, Width};
 use mt_windows::{PART, Seen, TELL, WINDOW};
+use udp1_core::{ELEMENTS, write_elements};
 use udp1_packets::{Body1, Packet1, write1};
-
-/// Elements of a vector at most: it tells of the last numbers that a window holds, and an element
-/// tells of one number or more.
-const ELEMENTS: usize = WINDOW as usize;
 
 /// Writes a datagram up to the bytes of its part, and gives its length: the last number accepted;
 /// where it tells so, which of the numbers from one up to it were; and the number of the part.
@@ -43,7 +40,7 @@ pub fn write_head(
     let mut elements = [0; ELEMENTS];
     let mut vector = None;
     if tells {
-        let count = write_elements(seen, from, last, &mut elements);
+        let count = write_vector(seen, from, last, &mut elements);
         vector = Some(&elements[..count]);
     }
     let packet = head_packet(last, vector, number);
@@ -55,7 +52,7 @@ pub fn write_head(
 
 /// Writes the elements of the vector that tells which of the numbers from one up to another were
 /// accepted, and gives how many.
-fn write_elements(seen: &Seen<W32>, from: u64, last: u64, out: &mut [u8; ELEMENTS]) -> usize
+fn write_vector(seen: &Seen<W32>, from: u64, last: u64, out: &mut [u8; ELEMENTS]) -> usize
     requires near { last + 1 ≤ from + WINDOW }
     requires bound { last < 2 ^ 62 }
     ensures bound { result ≤ WINDOW }
@@ -63,18 +60,9 @@ fn write_elements(seen: &Seen<W32>, from: u64, last: u64, out: &mut [u8; ELEMENT
     ensures elements { (numbers : List ℕ) → Notes seen.now numbers →
         take result out.new ≡ elements_of (flags_from (is_seen TELL numbers) from (last + 1 - from)) }
 {
-    let mut place = Out::new(out);
-    let mut writer = RunWriter::new();
-    for ahead in 0..(last + 1).saturating_sub(from) {
-        match writer.flag(seen.has(from + ahead), &mut place) {
-            Ok(()) => {}
-            Err(_) => unreachable!(),
-        }
-    }
-    match writer.end(&mut place) {
-        Ok(()) => place.at(),
-        Err(_) => unreachable!(),
-    }
+    let has = |number: u64| seen.has(number);
+    let count = (last + 1).saturating_sub(from);
+    write_elements(has, from, count, out)
 }
 
 /// The low part of a number, as it is shown.

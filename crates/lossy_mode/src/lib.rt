@@ -2,7 +2,7 @@
 //! sent once, and hands out those that came in the order in which they were posted. It has no socket
 //! and no clock.
 //!
-//! Below it stand `udp_open`, which opens it, `udp1_packets` and `ack_vector`, which read and write
+//! Below it stand `udp_open`, which opens it, `udp1_packets` and `udp1_core`, which read and write
 //! its datagrams, `carrier` with what a link is, `mt_windows` with the numbers that were seen, and the
 //! kit's `circular_buffer`, in which its parts wait. What the crates above use is that [`LossyCore`]
 //! is a `Post`, which stands for a trace of its calls in which each datagram is answered and each poll

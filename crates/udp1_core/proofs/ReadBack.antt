@@ -1,5 +1,5 @@
 -- The first layout reads back what it spells.
-use Rattle.std.proofs.Common.{◌≡◌, ℕ, zero, suc, ◌+◌, ◌-◌, ◌^◌, ◌<◌, ◌≤◌, Bool, true, false, bit_and, length, Option, Some, None, refl, sym, ap, ◌∙◌, arith}
+use Rattle.std.proofs.Common.{◌≡◌, ℕ, ◌+◌, ◌-◌, ◌^◌, ◌<◌, ◌≤◌, Bool, true, false, bit_and, length, Option, Some, None, refl, sym, ap, ◌∙◌, arith}
 use Rattle.std.specs.Prelude.{if◌then◌else◌}
 use Rattle.std.specs.Option.{IfSome, option_map}
 use Rattle.std.proofs.Math.Nat.{mod-lt}
@@ -12,15 +12,11 @@ use Rattle.carrier.specs.Layout.{Carried, Carries, Datagram, Empty, Load, Readin
 use Rattle.carrier.specs.LayoutLaw.{IsCarried, datagram_of, shown_of}
 use Rattle.udp1_packets.specs.Layout.{IsBody, IsBytes, IsPacket, IsTold, IsVector, mark_mask, spelled}
 use Rattle.udp1_packets.proofs.Theorems.{written_spells}
-use Rattle.udp1_core.specs.FirstLayout.{first_layout, flags_from, flags_in, low, body_of, named_of, packet_with, shown_by, shows, telling_in, telling_of, told_from, vector_in}
+use Rattle.link_machine.proofs.FlagLemmas.{length-flags_from}
+use Rattle.udp1_core.specs.FirstLayout.{first_layout, flags_in, low, body_of, named_of, packet_with, shown_by, shows, telling_in, telling_of, told_from, vector_in}
 use Rattle.udp1_core.proofs.Shown.{shows_packet}
 
 -- ---- the flags that are told
-
--- there are as many flags as numbers
-pub length-flags_from : (has : ℕ → Bool) (from n : ℕ) → length (flags_from has from n) ≡ n
-length-flags_from has from zero = refl
-length-flags_from has from (suc n) = ap suc (length-flags_from has (from + 1) n)
 
 -- a telling has at most as many flags as the window
 abbrev pub IsShort : Telling → Type 0

@@ -6,8 +6,9 @@ use Rattle.ack_vector.specs.Numbers.{flag_told}
 use Rattle.ack_vector.proofs.FlagLemmas.{flag_told_at, flag_untold}
 use Rattle.mt_windows.specs.Arrived.{Parts, has_part}
 use Rattle.carrier.specs.Layout.{Upto, tells}
-use Rattle.udp1_core.specs.FirstLayout.{flags_from, named_of, telling_of, told_from}
-use Rattle.udp1_core.proofs.ReadBack.{length-flags_from}
+use Rattle.link_machine.specs.Flags.{flags_from}
+use Rattle.link_machine.proofs.FlagLemmas.{length-flags_from}
+use Rattle.udp1_core.specs.FirstLayout.{named_of, telling_of, told_from}
 
 -- ---- flags
 

@@ -1,5 +1,5 @@
 -- The first layout (MS-RDPEUDP section 2.2) as the layout of a reliable link.
-use Rattle.std.specs.Prelude.{ℕ, zero, suc, ◌+◌, ◌-◌, ◌%◌, ◌^◌, Bool, true, max, List, [], ◌∷◌, if◌then◌else◌, Option, Some, None, option_map, unwrap_or, Result, Ok, Err}
+use Rattle.std.specs.Prelude.{ℕ, ◌+◌, ◌-◌, ◌%◌, ◌^◌, Bool, true, max, List, [], if◌then◌else◌, Option, Some, None, option_map, unwrap_or, Result, Ok, Err}
 use Rattle.mt_windows.specs.Arrived.{Parts, greatest_part, has_part}
 use Rattle.mt_windows.specs.declared.limits.TheConstants.{WINDOW}
 use Rattle.ack_vector.specs.Elements.{flags_of}
@@ -8,6 +8,7 @@ use Rattle.carrier.specs.declared.first_layout.Refusal1.{Refusal1}
 use Rattle.carrier.specs.declared.state.Reason.TheVariants as reason
 use Rattle.carrier.specs.Layout.{Layout, Reading, Refuses, Shows, Empty, Carries, Correction, Telling, Upto, From, Datagram, Carried, named_in}
 use Rattle.link_machine.specs.declared.numbers.Numbers.{Numbers}
+use Rattle.link_machine.specs.Flags.{flags_from}
 use Rattle.link_machine.specs.Wire.{Wire, layout_of}
 use Rattle.udp1_packets.specs.Value.{Body, SynBody, DataBody, FecBody, BareBody, Packet}
 use Rattle.udp1_packets.specs.Layout.{spelled}
@@ -50,11 +51,6 @@ abbrev pub shows : List ℕ → Reading
 shows datagram = packet_shows (packet_at (record { at = 0; bytes = datagram }))
 
 -- ---- what is told
-
--- the flags of so many numbers from one on
-abbrev pub flags_from : (ℕ → Bool) → ℕ → ℕ → List Bool
-flags_from has from zero = []
-flags_from has from (suc n) = has from ∷ flags_from has (from + 1) n
 
 -- the least number that is told of: of the last ones up to y, none below the first and the floor
 abbrev pub told_from : ℕ → ℕ → ℕ → ℕ

@@ -86,8 +86,5 @@ fn floor_of(aoa: Option<u32>) -> Option<u64>
     ensures same { result ≡ aoa }
     ensures low { IfSome result (λ low. low < 2 ^ 32) }
 {
-    match aoa {
-        Some(low) => Some(u64::from(low)),
-        None => None,
-    }
+    aoa.map(u64::from)
 }

@@ -5,20 +5,17 @@ ghost use Rattle.mt_windows.specs.Arrived.{Parts, has_part};
 ghost use Rattle.mt_windows.specs.ArrivedView.{Receives};
 ghost use Rattle.ack_vector.specs.Elements.{IsGood};
 ghost use Rattle.ack_vector.specs.Longest.{elements_of};
+ghost use Rattle.link_machine.specs.Flags.{flags_from};
 ghost use Rattle.udp1_packets.specs.Views.{packet_of};
 ghost use Rattle.udp1_core.specs.ContentsView.{head_body};
-ghost use Rattle.udp1_core.specs.FirstLayout.{first_wire, flags_in, flags_from, telling_of, named_of, low};
+ghost use Rattle.udp1_core.specs.FirstLayout.{first_wire, flags_in, telling_of, named_of, low};
 
-use ack_vector::RunWriter;
+use crate::elements::{ELEMENTS, write_elements};
 use carrier::WITH_TELLING;
 use link_machine::{Got, Numbers};
-use mt_base::{Out, W32, Width};
+use mt_base::{W32, Width};
 use mt_windows::{PART, WINDOW};
 use udp1_packets::{Body1, Packet1, write1};
-
-/// Elements of a vector at most: it tells of the last numbers that a window holds, and an element
-/// tells of one number or more.
-const ELEMENTS: usize = WINDOW as usize;
 
 /// Writes a datagram up to the bytes of its part, and gives its length.
 pub fn write_head(
@@ -39,7 +36,7 @@ pub fn write_head(
     let mut elements = [0; ELEMENTS];
     let mut vector = None;
     if tells {
-        let count = write_elements(got, &mut elements);
+        let count = write_vector(got, &mut elements);
         vector = Some(&elements[..count]);
     }
     let packet = head_packet(named, vector, above, numbers);
@@ -62,7 +59,7 @@ fn named(got: &Got<'_, W32>) -> u64
 }
 
 /// Writes the elements of the vector that tells what was received, and gives how many.
-fn write_elements(got: &Got<'_, W32>, out: &mut [u8; ELEMENTS]) -> usize
+fn write_vector(got: &Got<'_, W32>, out: &mut [u8; ELEMENTS]) -> usize
     requires { 1 ≤ got.now.peer }
     ensures bound { result ≤ WINDOW }
     ensures good { All IsGood (take result out.new) }
@@ -88,18 +85,8 @@ fn write_flags(got: &Got<'_, W32>, from: u64, count: u64, out: &mut [u8; ELEMENT
     ensures elements { (parts : Parts) (n : ℕ) → Receives got.now.window.now got.now.peer parts n →
         take result out.new ≡ elements_of (flags_from (has_part got.now.peer parts) from count) }
 {
-    let mut place = Out::new(out);
-    let mut writer = RunWriter::new();
-    for ahead in 0..count {
-        match writer.flag(got.window.has(from + ahead), &mut place) {
-            Ok(()) => {}
-            Err(_) => unreachable!(),
-        }
-    }
-    match writer.end(&mut place) {
-        Ok(()) => place.at(),
-        Err(_) => unreachable!(),
-    }
+    let has = |number: u64| got.window.has(number);
+    write_elements(has, from, count, out)
 }
 
 /// The low part of a number, as it is shown.

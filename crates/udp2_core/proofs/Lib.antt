@@ -6,7 +6,7 @@ pub mod SecondLinks
 pub mod Wrapping
 pub mod Flags
 pub mod Heads
-pub mod Fed
+pub mod CodedLemmas
 pub mod Bodies
 pub mod SecondWireLaw
 pub mod ToldFlags

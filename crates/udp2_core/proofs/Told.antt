@@ -4,11 +4,12 @@ use Rattle.std.specs.Prelude.{if◌then◌else◌}
 use Rattle.std.specs.Option.{unwrap_or}
 use Rattle.std.proofs.lemmas.Bool.{cases_lt, false≢true, and_parts, le-leb, lt-leb}
 use Rattle.std.proofs.lemmas.List.{length-replicate, length-reverse}
-use Rattle.std.proofs.lemmas.List.FromFn.{get_or-map-range_with_len, length-map-range_with_len}
-use Rattle.std.proofs.lemmas.Option.{slice_get_past, unwrap_or-slice_get}
+use Rattle.std.proofs.lemmas.Option.{slice_get_past}
 use Rattle.mt_windows.specs.Noted.{is_noted, is_seen}
 use Rattle.carrier.specs.Layout.{Telling, Upto, From, named_in, tells}
-use Rattle.udp2_core.specs.SecondLayout.{all_seen, count_of, flags_from, last_of, telling_of, told_from}
+use Rattle.link_machine.specs.Flags.{flags_from}
+use Rattle.link_machine.proofs.FlagLemmas.{length-flags_from}
+use Rattle.udp2_core.specs.SecondLayout.{all_seen, count_of, last_of, telling_of, told_from}
 
 -- ---- the form
 
@@ -16,10 +17,6 @@ use Rattle.udp2_core.specs.SecondLayout.{all_seen, count_of, flags_from, last_of
 abbrev pub IsTold : Telling → Type 0
 IsTold (Upto named flags) = (below : ℕ) × (below < 16) × (flags ≡ replicate (suc below) true)
 IsTold (From named flags) = length flags ≤ 512
-
--- there are as many flags as numbers
-pub length-flags_from : (has : ℕ → Bool) (from n : ℕ) → length (flags_from has from n) ≡ n
-length-flags_from has from n = length-map-range_with_len (λ ahead. has (from + ahead)) 0 n
 
 module _ (first : ℕ) where
   -- what is told up to h, where the last numbers were all seen or not
@@ -80,14 +77,11 @@ no_true flag none is = absurd (false≢true (sym (ap (λ f. unwrap_or f false) n
 -- a flag that is set has what is told of
 had_at : (has : ℕ → Bool) (from n k : ℕ)
     → unwrap_or (slice_get (flags_from has from n) k) false ≡ true → has (from + k) ≡ true
-had_at has from n k is = elim (cases_lt k n) [
-  | inl less ↦
-      sym (get_or-map-range_with_len (λ ahead. has (from + ahead)) 0 n k k false less (omega arith))
-      ∙ sym (unwrap_or-slice_get (flags_from has from n) k false) ∙ is
-  | inr past ↦
-      no_true (slice_get (flags_from has from n) k)
-      (slice_get_past (flags_from has from n) k (omega (arith, past, length-flags_from has from n))) is
-]
+had_at has from zero k is = no_true (slice_get (flags_from has from zero) k) refl is
+had_at has from (suc n) zero is = let here : from ≡ from + 0 = omega arith in sym (ap has here) ∙ is
+had_at has from (suc n) (suc k) is =
+    let there : from + 1 + k ≡ from + suc k = omega arith in
+    sym (ap has there) ∙ had_at has (from + 1) n k is
 
 -- each of the numbers that were all seen
 seen_at : (seen : List ℕ) (from n q : ℕ) → all_seen seen from n ≡ true → from ≤ q → q < from + n

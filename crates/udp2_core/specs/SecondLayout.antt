@@ -1,6 +1,5 @@
 -- The second layout (MS-RDPEUDP2 section 2.2) as the layout of a reliable link.
-use Rattle.std.specs.Prelude.{ℕ, zero, suc, ◌+◌, ◌-◌, ◌%◌, ◌^◌, Bool, true, false, ◌&&◌, min, max, List, [], ◌∷◌, length, drop, map, replicate, if◌then◌else◌, Option, Some, None, option_map, unwrap_or, Result, Ok, Err}
-use Rattle.std.specs.List.{range_with_len}
+use Rattle.std.specs.Prelude.{ℕ, zero, suc, ◌+◌, ◌-◌, ◌%◌, ◌^◌, Bool, true, false, ◌&&◌, min, max, List, [], ◌∷◌, length, drop, replicate, if◌then◌else◌, Option, Some, None, option_map, unwrap_or, Result, Ok, Err}
 use Rattle.mt_windows.specs.Noted.{greatest_of, is_seen}
 use Rattle.mt_windows.specs.declared.limits.TheConstants.{TELL}
 use Rattle.coded_vector.specs.CodedBytes.{flags_of}
@@ -9,6 +8,7 @@ use Rattle.carrier.specs.declared.second_layout.Refusal2.{Refusal2}
 use Rattle.carrier.specs.declared.state.Reason.TheVariants as reason
 use Rattle.carrier.specs.Layout.{Layout, Reading, Refuses, Shows, Load, Empty, Carries, Dummy, Telling as Told, Upto, From, Datagram, Carried}
 use Rattle.link_machine.specs.declared.numbers.Numbers.{Numbers}
+use Rattle.link_machine.specs.Flags.{flags_from}
 use Rattle.link_machine.specs.Wire.{Wire, layout_of}
 use Rattle.udp2_packets.specs.Value.{Telling, NoTelling, AckTelling, VectorTelling, Body, NoBody, DataBody, DummyBody, Packet}
 use Rattle.udp2_packets.specs.Layout.{finished, spelled, text}
@@ -54,10 +54,6 @@ ALL_SEEN = 16
 -- the greatest transmission that was seen, or one less than the first
 abbrev pub last_of : ℕ → List ℕ → ℕ
 last_of first seen = unwrap_or (greatest_of seen) (first - 1)
-
--- the flags of so many numbers from one on
-abbrev pub flags_from : (ℕ → Bool) → ℕ → ℕ → List Bool
-flags_from has from n = map (λ ahead. has (from + ahead)) (range_with_len 0 n)
 
 -- so many numbers from one on were seen
 abbrev pub all_seen : List ℕ → ℕ → ℕ → Bool

@@ -5,16 +5,17 @@ ghost use Rattle.mt_windows.specs.Noted.{is_seen};
 ghost use Rattle.mt_windows.specs.NotedView.{Notes};
 ghost use Rattle.coded_vector.specs.Written.{coded_of};
 ghost use Rattle.carrier.specs.Layout.{Upto};
+ghost use Rattle.link_machine.specs.Flags.{flags_from};
 ghost use Rattle.udp2_packets.specs.Layout.{IsAck};
 ghost use Rattle.udp2_packets.specs.Value.{AckTelling};
 ghost use Rattle.udp2_packets.specs.Views.{ack_of, packet_of, telling_of};
 ghost use Rattle.udp2_core.specs.TellingView.{IsShort};
-ghost use Rattle.udp2_core.specs.SecondLayout.{all_seen, count_of, flags_from, head_body, last_of, low, made_of, packet_telling, second_wire, telling_of as told_of, telling_where, told_from};
+ghost use Rattle.udp2_core.specs.SecondLayout.{all_seen, count_of, head_body, last_of, low, made_of, packet_telling, second_wire, telling_of as told_of, telling_where, told_from};
 
+use crate::coded::VectorWriter;
 use carrier::WITH_TELLING;
-use coded_vector::CodedWriter;
 use link_machine::{Got, Numbers};
-use mt_base::{Out, W16, Width};
+use mt_base::{W16, Width};
 use mt_windows::{PART, TELL};
 use udp2_packets::{Ack2, Body2, Packet2, Telling2, Vector2, write_fields2};
 
@@ -151,18 +152,9 @@ fn write_flags(got: &Got<'_, W16>, last: u64, from: u64, out: &mut [u8; CODED]) 
     ensures coded { (seen : List ℕ) → Notes got.now.seen.now seen →
         take result out.new ≡ coded_of (flags_from (is_seen TELL seen) from (last + 1 - from)) }
 {
-    let mut place = Out::new(out);
-    let mut writer = CodedWriter::new();
-    for ahead in 0..numbers_from(from, last) {
-        match writer.flag(got.seen.has(from + ahead), &mut place) {
-            Ok(()) => {}
-            Err(_) => unreachable!(),
-        }
-    }
-    match writer.end(&mut place) {
-        Ok(()) => place.at(),
-        Err(_) => unreachable!(),
-    }
+    let has = |number: u64| got.seen.has(number);
+    let count = numbers_from(from, last);
+    link_machine::write_flags(VectorWriter::new(), has, from, count, out)
 }
 
 /// The low part of a number, as it is shown.

@@ -9,6 +9,7 @@
 //! pulled is the beginning of what the other was given ([`second_links_join`]).
 #![tactic(auto)]
 
+mod coded;
 mod contents;
 mod head;
 mod joined;

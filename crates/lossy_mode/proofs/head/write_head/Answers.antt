@@ -19,7 +19,7 @@ vector_is c peer floor numbers h last from =
     let told = telling_of peer numbers floor in
     elim c.if-tells.branch [
       | then-tells w ↦ ap (λ v. option_copied v) w.vector-is
-          ∙ ap Some (w.write_elements-count.ensures.elements numbers h ∙ ap elements_of (flags_told peer floor numbers c.args.from c.args.last last from))
+          ∙ ap Some (w.write_vector-count.ensures.elements numbers h ∙ ap elements_of (flags_told peer floor numbers c.args.from c.args.last last from))
           ∙ sym (ap (λ b. vector_in b told) w.if-tells.true)
       | else-tells w ↦ ap (λ v. option_copied v) w.vector-is ∙ sym (ap (λ b. vector_in b told) w.if-tells.false)
     ]

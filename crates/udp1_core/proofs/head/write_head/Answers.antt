@@ -19,7 +19,7 @@ vector_is c parts n h =
     let told = telling_of c.args.got.now.peer c.args.got.now.floor parts in
     elim c.if-tells.branch [
       | then-tells w ↦ ap (λ v. option_copied v) w.vector-is
-          ∙ ap Some (w.write_elements-count.ensures.elements parts n h)
+          ∙ ap Some (w.write_vector-count.ensures.elements parts n h)
           ∙ sym (ap (λ b. vector_in b told) w.if-tells.true)
       | else-tells w ↦ ap (λ v. option_copied v) w.vector-is ∙ sym (ap (λ b. vector_in b told) w.if-tells.false)
     ]

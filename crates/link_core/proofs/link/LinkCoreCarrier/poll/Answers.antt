@@ -1,4 +1,4 @@
-use Rattle.std.proofs.Common.{◌≡◌, List, ℕ, Option, option_map, take, sym, ap, ◌∙◌, subst}
+use Rattle.std.proofs.Common.{◌≡◌, List, ℕ, Option, option_map, take, sym, ap, subst}
 use Rattle.mt_base.specs.Trace.{Trace, ◌▷◌}
 use Rattle.carrier.specs.Entries.{Entry, Polled}
 use Rattle.link_core.specs.CoreView.{Core, Stands, core_of}

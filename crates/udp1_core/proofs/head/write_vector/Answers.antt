@@ -1,9 +1,10 @@
 use Rattle.std.proofs.Common.{◌≡◌, ◌+◌, ◌-◌, ◌∙◌, ap, arith}
 use Rattle.ack_vector.specs.Longest.{elements_of}
 use Rattle.mt_windows.specs.Arrived.{has_part}
-use Rattle.udp1_core.specs.FirstLayout.{flags_from, named_of, told_from}
-use Rattle.udp1_core.proofs.head.write_elements.Goals as goal
-use Rattle.udp1_core.proofs.head.write_elements.Goals.{then-from-named, else-from-named}
+use Rattle.link_machine.specs.Flags.{flags_from}
+use Rattle.udp1_core.specs.FirstLayout.{named_of, told_from}
+use Rattle.udp1_core.proofs.head.write_vector.Goals as goal
+use Rattle.udp1_core.proofs.head.write_vector.Goals.{then-from-named, else-from-named}
 
 pub returns-clause-elements : goal.returns-clause-elements
 returns-clause-elements c parts n h =
