@@ -9,8 +9,7 @@ mod timer;
 use link_net::{Ending, Step, Story, play};
 use mt_base::NoMemory;
 use std::alloc::Global;
-use std::test::*;
-use udp2_core::{Udp2Core, numbers_wrap, one_part_goes_over, second_layout_is_read};
+use udp2_core::Udp2Core;
 
 /// The part 1 of two bytes, as the transmission 1.
 const PART_1: [u8; 9] = [0x41, 0x04, 0x60, 1, 0, 1, 0, 0xe0, 0x42];
@@ -30,11 +29,4 @@ fn ends(alloc: Global, story: &Story) -> Result<Ending, NoMemory> {
     let near = Udp2Core::new(alloc)?;
     let far = Udp2Core::new(alloc)?;
     story.run(alloc, near, far)
-}
-
-#[test]
-fn laws_hold() {
-    second_layout_is_read();
-    one_part_goes_over();
-    numbers_wrap();
 }

@@ -1,11 +1,12 @@
-//! The laws of links, cited at two machines.
+//! The laws of the layout and of its links, cited at two machines.
 
-use mt_base::NoMemory;
 use std::test::*;
-use udp1_core::{Udp1Core, first_links_join, first_links_keep, pulled_was_given};
+use udp1_core::*;
 
 #[test]
-fn laws_of_links_hold(rt: HostRuntime) -> Result<(), Fail> {
+fn laws_hold(rt: HostRuntime) -> Result<(), Fail> {
+    first_layout_is_read();
+    one_part_goes_over();
     first_links_keep();
     first_links_join();
     let server = Udp1Core::new(rt.alloc(), 1, 2, 0x0001)?;

@@ -1,11 +1,13 @@
-//! The laws of links, cited at two machines.
+//! The laws of the layout and of its links, cited at two machines.
 
-use mt_base::NoMemory;
 use std::test::*;
-use udp2_core::{Udp2Core, pulled_was_given, second_links_join, second_links_keep};
+use udp2_core::*;
 
 #[test]
-fn laws_of_links_hold(rt: HostRuntime) -> Result<(), NoMemory> {
+fn laws_hold(rt: HostRuntime) -> Result<(), Fail> {
+    second_layout_is_read();
+    one_part_goes_over();
+    numbers_wrap();
     second_links_keep();
     second_links_join();
     let server = Udp2Core::new(rt.alloc())?;

@@ -11,8 +11,7 @@ mod timer;
 use link_net::{Ending, Step, Story, play};
 use mt_base::NoMemory;
 use std::alloc::Global;
-use std::test::*;
-use udp1_core::{Udp1Core, first_layout_is_read, one_part_goes_over};
+use udp1_core::Udp1Core;
 
 /// The part 2 of two bytes.
 const PART_2: [u8; 18] = [
@@ -38,10 +37,4 @@ fn ends(alloc: Global, initial: (u32, u32), version: u16, story: &Story) -> Resu
     let near = Udp1Core::new(alloc, initial.0, initial.1, version)?;
     let far = Udp1Core::new(alloc, initial.1, initial.0, version)?;
     story.run(alloc, near, far)
-}
-
-#[test]
-fn laws_hold() {
-    first_layout_is_read();
-    one_part_goes_over();
 }

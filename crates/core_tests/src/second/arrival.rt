@@ -70,20 +70,24 @@ fn a_link_closes_where_no_datagram_arrives(rt: HostRuntime) -> Result<(), Fail> 
     Ok(())
 }
 
-/// Whether one part of one byte goes over, and what is told of it at once, where something is.
-fn goes_over<C: Carrier>(near: &mut C, far: &mut C, byte: u8) -> bool {
-    if near.give(&[byte]).is_err() || !carries(near, far, 0) {
-        return false;
+/// The bytes of sixteen parts.
+const SIXTEEN: [u8; 16] = [1, 2, 3, 4, 5, 6, 7, 8, 9, 10, 11, 12, 13, 14, 15, 16];
+
+/// Whether sixteen parts of one byte go over, and are told of by one datagram.
+fn sixteen_go_over<C: Carrier>(near: &mut C, far: &mut C) -> bool {
+    for byte in SIXTEEN {
+        if near.give(&[byte]).is_err() || !carries(near, far, 0) {
+            return false;
+        }
     }
-    let _is_told = carries(far, near, 0);
-    let mut out = [0; 2];
-    far.pull(&mut out) == 1 && out[0] == byte
+    let mut out = [0; 17];
+    carries(far, near, 0) && far.pull(&mut out) == 16 && &out[..16] == SIXTEEN.as_slice()
 }
 
-/// Whether so many parts of one byte go over, one after the other.
-fn go_over<C: Carrier>(near: &mut C, far: &mut C, rounds: u32) -> bool {
-    for round in 0..rounds {
-        if !goes_over(near, far, (round % 251) as u8) {
+/// Whether so many times sixteen parts go over, one after the other.
+fn go_over<C: Carrier>(near: &mut C, far: &mut C, times: u32) -> bool {
+    for _time in 0..times {
+        if !sixteen_go_over(near, far) {
             return false;
         }
     }
@@ -94,7 +98,8 @@ fn go_over<C: Carrier>(near: &mut C, far: &mut C, rounds: u32) -> bool {
 fn the_shown_numbers_begin_again(rt: HostRuntime) -> Result<(), Fail> {
     let mut near = Udp2Core::new(rt.alloc())?;
     let mut far = Udp2Core::new(rt.alloc())?;
-    assert!(rt; go_over(&mut near, &mut far, 70_000));
-    assert!(rt; near.queued() <= 1);
+    // 65,552 parts, each sent once, of which the last 17 show the numbers 0 to 16
+    assert!(rt; go_over(&mut near, &mut far, 4_097));
+    assert_eq!(rt; near.queued(), 0);
     Ok(())
 }
