@@ -27,12 +27,18 @@ whole_rest n xs = take_all (length xs - n) (drop n xs) (omega (arith, length-dro
 seam : (n k : ℕ) (xs : List ℕ) → take n xs ++ take k (drop n xs) ≡ take (n + k) xs
 seam n k xs = sym (ap (λ l. take n xs ++ l) (drop-take n k xs)) ∙ ap (λ l. l ++ drop n (take (n + k) xs)) (sym (take-take n (n + k) xs (let e : n ≤ n + k = omega arith in e))) ∙ take-append-drop n (take (n + k) xs)
 
+-- the next bytes are given
+pub next_given : (a b c : Trace Entry → Type 0) (n k : ℕ) (xs ys : List ℕ) → ys ≡ drop n xs
+    → Passes a b (take n xs) [] → Passes b c (take k ys) [] → Passes a c (take (n + k) xs) []
+next_given a b c n k xs ys is p q =
+    subst (λ l. Passes a c l []) (ap (λ l. take n xs ++ take k l) is ∙ seam n k xs) (passes_then a b c _ _ _ _ p q)
+
 pub more_given : (a b c d e : Trace Entry → Type 0) (n k : ℕ) (xs ys : List ℕ) → ys ≡ drop n xs
     → Passes a b (take n xs) [] → Passes b c (take k ys) [] → Passes c d [] [] → Passes d e [] []
     → Passes a e (take (n + k) xs) []
 more_given a b c d e n k xs ys is p q r s =
-    let all = passes_then a c e _ _ _ _ (passes_then a b c _ _ _ _ p q) (passes_then c d e _ _ _ _ r s) in
-    subst (λ l. Passes a e l []) (append-nil (take n xs ++ take k ys) ∙ ap (λ l. take n xs ++ take k l) is ∙ seam n k xs) all
+    subst (λ l. Passes a e l []) (append-nil (take (n + k) xs))
+    (passes_then a c e _ _ _ _ (next_given a b c n k xs ys is p q) (passes_then c d e _ _ _ _ r s))
 
 pub more_pulled : (a b c d e : Trace Entry → Type 0) (n k : ℕ) (xs ys : List ℕ) → ys ≡ drop n xs
     → Passes a b [] (take n xs) → Passes b c [] [] → Passes c d [] [] → Passes d e [] (take k ys)

@@ -2,9 +2,11 @@
 //! either layout (MS-RDPEUDP, MS-RDPEUDP2), both ends in this process, with a clock of its own and no
 //! socket; or they are copied, for comparison.
 //!
-//! `link_bench first BYTES LOST` lets so many bytes cross a link of version 2, whose datagrams have
-//! the first layout, and loses each datagram whose number can be divided by `LOST`, none where it is
-//! 0. `link_bench second BYTES LOST` does the same with the second layout, of version 0x0101.
+//! `link_bench first BYTES LOST AHEAD` lets so many bytes cross a link of version 2, whose datagrams
+//! have the first layout, and loses each datagram whose number can be divided by `LOST`, none where it
+//! is 0. About `AHEAD` bytes, as far as they find room, are given before the first datagram goes, and
+//! then a piece in each turn: so nearly each give finds about so many bytes waiting.
+//! `link_bench second BYTES LOST AHEAD` does the same with the second layout, of version 0x0101.
 //! `link_bench copy BYTES TIMES` copies as many bytes `TIMES` times. All print `BYTES bytes arrived`
 //! where the bytes that came are those that were sent, in order.
 //!
@@ -68,7 +70,13 @@ fn version_of(layout: Layout) -> u16
 }
 
 /// Lets so many bytes cross a link of this layout.
-fn run_cross(alloc: Global, layout: Layout, count: usize, lost: u64) -> Result<(), Fault> {
+fn run_cross(
+    alloc: Global,
+    layout: Layout,
+    count: usize,
+    lost: u64,
+    ahead: usize,
+) -> Result<(), Fault> {
     let bytes = pattern(alloc, count)?;
     let version = version_of(layout);
     let Ok(mut near) = LinkCore::new(alloc, 1, 1, version) else {
@@ -77,7 +85,7 @@ fn run_cross(alloc: Global, layout: Layout, count: usize, lost: u64) -> Result<(
     let Ok(mut far) = LinkCore::new(alloc, 1, 1, version) else {
         return Err(Fault::NoMemory);
     };
-    cross(&mut near, &mut far, &bytes, lost)
+    cross(&mut near, &mut far, &bytes, lost, ahead)
 }
 
 /// Copies so many bytes so many times.
@@ -97,9 +105,10 @@ fn run(alloc: Global, words: &Vec<String>) -> Result<usize, Fault> {
                 layout,
                 bytes,
                 lost,
+                ahead,
             },
         ) => {
-            run_cross(alloc, layout, bytes, lost)?;
+            run_cross(alloc, layout, bytes, lost, ahead)?;
             Ok(bytes)
         }
         Some(Run::Copy { bytes, times }) => {
@@ -119,7 +128,7 @@ fn tell<K: Sink>(alloc: Global, out: &mut K, ended: Result<usize, Fault>) -> u8 
         },
         Err(Fault::Usage) => print(
             out,
-            b"usage: link_bench first BYTES LOST | second BYTES LOST | copy BYTES TIMES\n",
+            b"usage: link_bench first|second BYTES LOST AHEAD | copy BYTES TIMES\n",
             1,
         ),
         Err(Fault::Wrong) => print(out, b"other bytes arrived\n", 2),

@@ -14,11 +14,11 @@ fn call(alloc: Global, words: &[&str]) -> Result<Result<usize, Fault>, NoMemory>
 #[test]
 fn bytes_arrive(rt: HostRuntime) -> Result<(), Fail> {
     let rows: [(&[&str], usize); 6] = [
-        (&["first", "0", "0"], 0),
-        (&["first", "200500", "0"], 200_500),
-        (&["first", "200500", "5"], 200_500),
-        (&["second", "200500", "0"], 200_500),
-        (&["second", "200500", "5"], 200_500),
+        (&["first", "0", "0", "9000"], 0),
+        (&["first", "200500", "0", "0"], 200_500),
+        (&["first", "200500", "5", "9000"], 200_500),
+        (&["second", "200500", "0", "9000"], 200_500),
+        (&["second", "200500", "5", "0"], 200_500),
         (&["copy", "2500", "1"], 2_500),
     ];
     for (words, count) in rows {
@@ -29,7 +29,7 @@ fn bytes_arrive(rt: HostRuntime) -> Result<(), Fail> {
 
 #[test]
 fn nothing_arrives_where_all_is_lost(rt: HostRuntime) -> Result<(), Fail> {
-    let ended = call(rt.alloc(), &["second", "1", "1"])?;
+    let ended = call(rt.alloc(), &["second", "1", "1", "0"])?;
     assert!(rt; matches!(ended, Err(Fault::GaveUp)));
     let ended = call(rt.alloc(), &["copy", "2500", "0"])?;
     assert!(rt; matches!(ended, Err(Fault::Wrong)));
@@ -41,9 +41,9 @@ fn knows_its_words(rt: HostRuntime) -> Result<(), Fail> {
     let rows: [&[&str]; 5] = [
         &[],
         &["first"],
-        &["first", "1"],
-        &["second", "x", "0"],
-        &["send", "1", "0"],
+        &["first", "1", "0"],
+        &["second", "x", "0", "0"],
+        &["send", "1", "0", "0"],
     ];
     for words in rows {
         assert!(rt; matches!(call(rt.alloc(), words)?, Err(Fault::Usage)));

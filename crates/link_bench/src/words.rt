@@ -12,13 +12,14 @@ pub(crate) enum Layout {
 /// What the words of a call ask for.
 #[derive(Clone, Copy)]
 pub(crate) enum Run {
-    /// `first BYTES LOST` or `second BYTES LOST`: so many bytes go from one end of a link of that
-    /// layout to the other, and each datagram whose number can be divided by `lost` is lost, none
-    /// where it is 0.
+    /// `first BYTES LOST AHEAD` or `second BYTES LOST AHEAD`: so many bytes go from one end of a link
+    /// of that layout to the other, each datagram whose number can be divided by `lost` is lost, none
+    /// where it is 0, and about `ahead` bytes are given before the first datagram goes.
     Cross {
         layout: Layout,
         bytes: usize,
         lost: u64,
+        ahead: usize,
     },
     /// `copy BYTES TIMES`: so many bytes are copied so many times.
     Copy {
@@ -29,26 +30,26 @@ pub(crate) enum Run {
 
 /// The run that these words are, `None` where they are not those of one.
 pub(crate) fn read_words(words: &Vec<String>) -> Option<Run> {
-    let [name, bytes, number] = words.as_slice() else {
-        return None;
-    };
-    let bytes = bytes.as_str().parse().ok()?;
-    let number = number.as_str().parse().ok()?;
+    match words.as_slice() {
+        [name, bytes, lost, ahead] => Some(Run::Cross {
+            layout: layout_named(name)?,
+            bytes: bytes.as_str().parse().ok()?,
+            lost: lost.as_str().parse().ok()?,
+            ahead: ahead.as_str().parse().ok()?,
+        }),
+        [name, bytes, times] if name.as_str() == "copy" => Some(Run::Copy {
+            bytes: bytes.as_str().parse().ok()?,
+            times: times.as_str().parse().ok()?,
+        }),
+        _ => None,
+    }
+}
+
+/// The layout of this name.
+fn layout_named(name: &String) -> Option<Layout> {
     match name.as_str() {
-        "first" => Some(Run::Cross {
-            layout: Layout::First,
-            bytes,
-            lost: number,
-        }),
-        "second" => Some(Run::Cross {
-            layout: Layout::Second,
-            bytes,
-            lost: number,
-        }),
-        "copy" => Some(Run::Copy {
-            bytes,
-            times: number,
-        }),
+        "first" => Some(Layout::First),
+        "second" => Some(Layout::Second),
         _ => None,
     }
 }

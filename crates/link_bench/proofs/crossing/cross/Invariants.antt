@@ -7,5 +7,5 @@ abbrev pub invariant-loop-turn : goal.invariant-loop-turn
 invariant-loop-turn g l =
     (l.given ≤ length l.bytes)
     × (l.pulled ≤ length l.bytes)
-    × Passes (g.C.Carrier.stands l.initial.near) (g.C.Carrier.stands l.near) (take l.given l.bytes) []
-    × Passes (g.C.Carrier.stands l.initial.far) (g.C.Carrier.stands l.far) [] (take l.pulled l.bytes)
+    × Passes (g.C.Carrier.stands l.fn.near) (g.C.Carrier.stands l.near) (take l.given l.bytes) []
+    × Passes (g.C.Carrier.stands l.fn.far) (g.C.Carrier.stands l.far) [] (take l.pulled l.bytes)
