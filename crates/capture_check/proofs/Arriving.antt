@@ -19,7 +19,7 @@ use Rattle.capture_check.proofs.Judging.{itself}
 
 -- ---- entries that grow by one
 
-nothing_before : (front : List Entry) (e : Entry) (back : List Entry) → [] ≢ front ++ e ∷ back
+pub nothing_before : (front : List Entry) (e : Entry) (back : List Entry) → [] ≢ front ++ e ∷ back
 nothing_before [] e back p = cc
 nothing_before (b ∷ bs) e back p = cc
 

@@ -13,7 +13,7 @@ use Rattle.capture_check.specs.declared.entry.Entry.{Entry}
 use Rattle.capture_check.specs.declared.entry.Entry.TheVariants.{Issue, Open, Sent, Got, Main, Word, Out, In}
 use Rattle.mt_base.specs.Ends.{same_kind, same_role}
 use Rattle.capture_check.specs.Numbers.{is_out, is_out_of, HasOut, late, CountsUp, NamesOut, IsTimely}
-use Rattle.capture_check.specs.Rules.{Rule, Numbering, Naming, Lateness, Layouts, Messages, Tellings, number_of, Asks, Keeps, Hold, FirstBreak, BreaksRule}
+use Rattle.capture_check.specs.Rules.{Rule, Numbering, Naming, Lateness, Layouts, Messages, Tellings, Framing, Asking, number_of, Asks, Keeps, Hold, FirstBreak, BreaksRule}
 use Rattle.capture_check.specs.GivenSoFar.{Given, places, given_of, with_entry, no_datagrams, arrival_rule, rule_broken}
 use Rattle.capture_check.proofs.Stepping.{snoc, at_place, one_further}
 use Rattle.capture_check.proofs.Places.{bit, how_many, counted, one, places_from, places_from-cons, places_from-append, length-places_from, how_many-append, given_by, places_by, given_of_by, none_given, one_more}
@@ -141,6 +141,8 @@ three before entry counts names timely Lateness few = timely
 three before entry counts names timely Layouts few = absurd (omega (arith, few))
 three before entry counts names timely Messages few = absurd (omega (arith, few))
 three before entry counts names timely Tellings few = absurd (omega (arith, few))
+three before entry counts names timely Framing few = absurd (omega (arith, few))
+three before entry counts names timely Asking few = absurd (omega (arith, few))
 
 below_one : (before : List Entry) (entry : Entry) (lower : Rule) → number_of lower < 1 → Asks lower before entry
 below_one before entry Numbering few = absurd (omega (arith, few))
@@ -149,6 +151,8 @@ below_one before entry Lateness few = absurd (omega (arith, few))
 below_one before entry Layouts few = absurd (omega (arith, few))
 below_one before entry Messages few = absurd (omega (arith, few))
 below_one before entry Tellings few = absurd (omega (arith, few))
+below_one before entry Framing few = absurd (omega (arith, few))
+below_one before entry Asking few = absurd (omega (arith, few))
 
 below_two : (before : List Entry) (entry : Entry) → CountsUp before entry → (lower : Rule) → number_of lower < 2 → Asks lower before entry
 below_two before entry counts Numbering few = counts
@@ -157,6 +161,8 @@ below_two before entry counts Lateness few = absurd (omega (arith, few))
 below_two before entry counts Layouts few = absurd (omega (arith, few))
 below_two before entry counts Messages few = absurd (omega (arith, few))
 below_two before entry counts Tellings few = absurd (omega (arith, few))
+below_two before entry counts Framing few = absurd (omega (arith, few))
+below_two before entry counts Asking few = absurd (omega (arith, few))
 
 below_three : (before : List Entry) (entry : Entry) → CountsUp before entry → NamesOut before entry → (lower : Rule) → number_of lower < 3 → Asks lower before entry
 below_three before entry counts names Numbering few = counts
@@ -165,6 +171,8 @@ below_three before entry counts names Lateness few = absurd (omega (arith, few))
 below_three before entry counts names Layouts few = absurd (omega (arith, few))
 below_three before entry counts names Messages few = absurd (omega (arith, few))
 below_three before entry counts names Tellings few = absurd (omega (arith, few))
+below_three before entry counts names Framing few = absurd (omega (arith, few))
+below_three before entry counts names Asking few = absurd (omega (arith, few))
 
 first : (before : List Entry) (entry : Entry) → ¬ CountsUp before entry → BreaksRule 3 before entry 1
 first before entry broken = record { rule = Numbering; number_is = refl; within = omega arith; broken = broken; least = below_one before entry }

@@ -15,3 +15,6 @@ pub mod Arriving
 pub mod Telling
 pub mod Flagged
 pub mod Taken
+pub mod Asking
+pub mod Speaking
+pub mod Framing

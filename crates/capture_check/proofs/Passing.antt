@@ -4,7 +4,7 @@ use Rattle.std.proofs.Math.Seq.{take-append_seam}
 use Rattle.capture_check.specs.declared.entry.Entry.{Entry}
 use Rattle.capture_check.specs.declared.judgement.Judgement.{Judgement}
 use Rattle.capture_check.specs.declared.judgement.Judgement.TheVariants.{Holds, Breaks}
-use Rattle.capture_check.specs.Rules.{Rule, Numbering, Naming, Lateness, Layouts, Messages, Tellings, number_of, Asks, Keeps, Hold, FirstBreak, Judged}
+use Rattle.capture_check.specs.Rules.{Rule, Numbering, Naming, Lateness, Layouts, Messages, Tellings, Framing, Asking, number_of, Asks, Keeps, Hold, FirstBreak, Judged}
 use Rattle.capture_check.specs.Passes.{Obey, FirstAgainst, Finds, unbroken, with_found, IsWithin}
 use Rattle.capture_check.proofs.Stepping.{snoc, at_place, one_further}
 
@@ -138,6 +138,8 @@ layouts_next Lateness few = inl (omega arith)
 layouts_next Layouts few = inr refl
 layouts_next Messages few = absurd (omega (arith, few))
 layouts_next Tellings few = absurd (omega (arith, few))
+layouts_next Framing few = absurd (omega (arith, few))
+layouts_next Asking few = absurd (omega (arith, few))
 
 pub messages_next : IsNext 4 Messages
 messages_next Numbering few = inl (omega arith)
@@ -146,6 +148,8 @@ messages_next Lateness few = inl (omega arith)
 messages_next Layouts few = inl (omega arith)
 messages_next Messages few = inr refl
 messages_next Tellings few = absurd (omega (arith, few))
+messages_next Framing few = absurd (omega (arith, few))
+messages_next Asking few = absurd (omega (arith, few))
 
 pub tellings_next : IsNext 5 Tellings
 tellings_next Numbering few = inl (omega arith)
@@ -154,6 +158,28 @@ tellings_next Lateness few = inl (omega arith)
 tellings_next Layouts few = inl (omega arith)
 tellings_next Messages few = inl (omega arith)
 tellings_next Tellings few = inr refl
+tellings_next Framing few = absurd (omega (arith, few))
+tellings_next Asking few = absurd (omega (arith, few))
+
+pub framing_next : IsNext 6 Framing
+framing_next Numbering few = inl (omega arith)
+framing_next Naming few = inl (omega arith)
+framing_next Lateness few = inl (omega arith)
+framing_next Layouts few = inl (omega arith)
+framing_next Messages few = inl (omega arith)
+framing_next Tellings few = inl (omega arith)
+framing_next Framing few = inr refl
+framing_next Asking few = absurd (omega (arith, few))
+
+pub asking_next : IsNext 7 Asking
+asking_next Numbering few = inl (omega arith)
+asking_next Naming few = inl (omega arith)
+asking_next Lateness few = inl (omega arith)
+asking_next Layouts few = inl (omega arith)
+asking_next Messages few = inl (omega arith)
+asking_next Tellings few = inl (omega arith)
+asking_next Framing few = inl (omega arith)
+asking_next Asking few = inr refl
 
 -- the entries that were not judged to break a rule keep each of the rules
 pub unbroken_hold : (most : ℕ) (entries : List Entry) (judgement : Judgement) → Judged most entries judgement → Hold most (unbroken entries judgement)

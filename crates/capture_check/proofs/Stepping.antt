@@ -4,7 +4,7 @@ use Rattle.mt_base.proofs.Lists.{heads}
 use Rattle.capture_check.specs.declared.entry.Entry.{Entry}
 
 -- a place in a list with one entry more is that entry's, or one before it
-pub snoc : (xs before : List Entry) (e x : Entry) (after : List Entry) → xs ++ e ∷ [] ≡ before ++ x ∷ after → ((xs ≡ before) × (e ≡ x)) ⊎ ((rest : List Entry) × (xs ≡ before ++ x ∷ rest))
+pub snoc : {X : Type 0} (xs before : List X) (e x : X) (after : List X) → xs ++ e ∷ [] ≡ before ++ x ∷ after → ((xs ≡ before) × (e ≡ x)) ⊎ ((rest : List X) × (xs ≡ before ++ x ∷ rest))
 snoc [] [] e x after h = inl (refl, (heads e x [] after h).0)
 snoc [] (b ∷ []) e x after h = let parts = (heads e b [] (x ∷ after) h).1 in cc
 snoc [] (b ∷ c ∷ bs) e x after h = let parts = (heads e b [] (c ∷ (bs ++ x ∷ after)) h).1 in cc

@@ -171,7 +171,7 @@ pub layout_of_other : (kind : Kind) (before : List Entry) (datagram : List ℕ) 
 layout_of_other kind before datagram o None only not_there agreed = λ layout has_it. not_agreed kind before layout agreed has_it.1
 layout_of_other kind before datagram o (Some layout) only not_there agreed = (unopened datagram o only not_there, agreed)
 
-one_layout : (kind : Kind) (before : List Entry) (datagram : List ℕ) (l m : Layout) → HasLayout kind before datagram l → HasLayout kind before datagram m → l ≡ m
+pub one_layout : (kind : Kind) (before : List Entry) (datagram : List ℕ) (l m : Layout) → HasLayout kind before datagram l → HasLayout kind before datagram m → l ≡ m
 one_layout kind before datagram l m a b = one_agreed kind before l m a.1 b.1
 
 pub shown_by_layout : (kind : Kind) (before : List Entry) (datagram : List ℕ) (layout : Layout) (shown : Option ℕ) → HasLayout kind before datagram layout → ShowsJust layout datagram shown → ShowsJustAfter kind before datagram shown

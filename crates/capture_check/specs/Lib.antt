@@ -10,6 +10,12 @@ pub mod FlowsSoFar
 pub mod Tellings
 pub mod Arrivals
 pub mod TellingsSoFar
+pub mod Sayings
+pub mod MainFrames
+pub mod WordsSoFar
+pub mod FramesSoFar
+pub mod Requests
+pub mod RequestsSoFar
 pub mod Rules
 pub mod Passes
 pub mod GivenSoFar

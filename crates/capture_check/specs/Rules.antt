@@ -7,6 +7,8 @@ use Rattle.capture_check.specs.Numbers.{CountsUp, NamesOut, IsTimely}
 use Rattle.capture_check.specs.Layouts.{IsReadable}
 use Rattle.capture_check.specs.Messages.{WasSent}
 use Rattle.capture_check.specs.Tellings.{TellsWhatCame}
+use Rattle.capture_check.specs.MainFrames.{FramesMain}
+use Rattle.capture_check.specs.Requests.{AsksForTunnel}
 
 -- the rules, by what they speak of
 pub data Rule : Type 0 where
@@ -16,6 +18,8 @@ pub data Rule : Type 0 where
   Layouts : Rule
   Messages : Rule
   Tellings : Rule
+  Framing : Rule
+  Asking : Rule
 
 abbrev pub number_of : Rule → ℕ
 number_of Numbering = 1
@@ -24,6 +28,8 @@ number_of Lateness = 3
 number_of Layouts = 4
 number_of Messages = 5
 number_of Tellings = 6
+number_of Framing = 7
+number_of Asking = 8
 
 -- what a rule asks of an entry, from it and the entries before it
 abbrev pub Asks : Rule → List Entry → Entry → Type 0
@@ -33,6 +39,8 @@ Asks Lateness before entry = IsTimely before entry
 Asks Layouts before entry = IsReadable before entry
 Asks Messages before entry = WasSent before entry
 Asks Tellings before entry = TellsWhatCame before entry
+Asks Framing before entry = FramesMain before entry
+Asks Asking before entry = AsksForTunnel before entry
 
 -- an entry keeps the rules up to this number
 abbrev pub Keeps : ℕ → List Entry → Entry → Type 0

@@ -1,16 +1,17 @@
 //! The layouts that links agreed on so far.
 
-ghost use Rattle.std.specs.Prelude.{◌↔◌, ◌≡◌, ◌++◌, ◌∷◌, [], ℕ, List, IsTrue, IsFalse};
+ghost use Rattle.std.specs.Prelude.{◌↔◌, ◌≡◌, ◌++◌, ◌∷◌, [], ℕ, List, IsTrue, IsFalse, option_copied};
 ghost use Rattle.capture_check.specs.declared.entry.Entry.{Entry};
 ghost use Rattle.capture_check.specs.declared.layout.Layout.{Layout};
 ghost use Rattle.capture_check.specs.Layouts.{IsReadable};
 ghost use Rattle.capture_check.specs.LayoutsSoFar.{AreAgreed, ReadsNow, layout_of};
+ghost use Rattle.capture_check.specs.RequestsSoFar.{CarriesJustAfter};
 ghost use Rattle.capture_check.specs.Tellings.{HasLayout, Tells};
 ghost use Rattle.capture_check.specs.TellingsSoFar.{HasJust, MayTell, ShowsJustAfter};
 
 use crate::came::NumbersCame;
 use crate::entry::Entry;
-use crate::layout::{Layout, answered, opening};
+use crate::layout::{GREATEST, Layout, answered, opening};
 use mt_base::Kind;
 
 /// For each kind of link the layout that its last SYN+ACK chose.
@@ -83,6 +84,22 @@ impl AgreedLayouts {
     {
         match self.layout_for(kind, datagram) {
             Some(layout) => layout.shown(datagram),
+            None => None,
+        }
+    }
+
+    /// The data that a datagram carries. Those of the second layout are borrowed from `scratch`.
+    pub(crate) fn carried<'a>(
+        self,
+        kind: Kind,
+        datagram: &'a [u8],
+        scratch: &'a mut [u8; GREATEST],
+    ) -> Option<&'a [u8]>
+        ensures { (before : List Entry) → AreAgreed self before
+            → CarriesJustAfter kind before datagram.now (option_copied result) }
+    {
+        match self.layout_for(kind, datagram) {
+            Some(layout) => layout.carried(datagram, scratch),
             None => None,
         }
     }

@@ -1,5 +1,5 @@
 use capture_check::{
-    Judgement, check_datagrams, check_messages, check_numbers, check_tellings, read_capture,
+    Judgement, check, check_datagrams, check_messages, check_numbers, check_tellings, read_capture,
 };
 use std::test::*;
 
@@ -255,5 +255,70 @@ fn a_number_that_did_not_come_breaks_rule_6(rt: HostRuntime) -> Result<(), Fail>
             Judgement::Breaks { line, rule: 6 }
         );
     }
+    Ok(())
+}
+
+/// What all rules say of a capture.
+fn checked(rt: HostRuntime, text: &[u8]) -> Result<Judgement, Fail> {
+    let capture = read_capture(rt.alloc(), text)?;
+    let judgement = check(rt.alloc(), &capture)?;
+    Ok(judgement)
+}
+
+#[test]
+fn frames_and_requests_keep_all_rules(rt: HostRuntime) -> Result<(), Fail> {
+    let rows: [&[u8]; 5] = [
+        b"",
+        b"main server 03\nmain client 0301\nmain server 010030030300300761",
+        b"main server 030300300761\nmain server 0314008000120000000300010001000000010007000000",
+        b"main client 030a0090000100000001000000\nmain server 0314008000120000000300010001000000010007000000\nmain client 030300300761",
+        b"issue 7 reliable 000102030405060708090a0b0c0d0e0f\nissue 8 lossy 000102030405060708090a0b0c0d0e0f\nout server reliable 0 00000001004000050000000104d004d0\nout client reliable 0 00000000004000080000000100000001001800040700000000000000000102030405060708090a0b0c0d0e0f\nout client reliable 1 0000000000400008000000020000000241",
+    ];
+    for text in rows {
+        assert_eq!(rt; checked(rt, text)?, Judgement::Holds);
+    }
+    Ok(())
+}
+
+#[test]
+fn a_fault_or_data_behind_a_word_breaks_rule_7(rt: HostRuntime) -> Result<(), Fail> {
+    let rows: [(&[u8], u64); 3] = [
+        (b"main server 03\nmain server 0100\nmain client 04", 3),
+        (
+            b"main server 0314008000120000000300010001000000010007000000\nmain server 03030030\nmain server 0761",
+            3,
+        ),
+        (
+            b"main server 0314008000120000000300010001000000010007000000\nmain client 030a0090000100000001000000\nmain client 030300300761",
+            3,
+        ),
+    ];
+    for (text, line) in rows {
+        assert_eq!(rt; checked(rt, text)?, Judgement::Breaks { line, rule: 7 });
+    }
+    Ok(())
+}
+
+#[test]
+fn a_request_that_was_not_issued_breaks_rule_8(rt: HostRuntime) -> Result<(), Fail> {
+    let opened =
+        "out server reliable 0 00000001004000050000000104d004d0\nout client reliable 0 00000000004000080000000100000001";
+    let asks = "001800040700000000000000000102030405060708090a0b0c0d0e0f";
+    let rows = [
+        ("issue 7 lossy", asks, ""),
+        ("issue 8 reliable", asks, ""),
+        ("issue 7 reliable", asks, "00"),
+        ("issue 7 reliable", "41", ""),
+    ];
+    for (issue, data, more) in rows {
+        let text = format!(in rt.alloc();
+            "{issue} 000102030405060708090a0b0c0d0e0f\n{opened}{data}{more}\n"
+        )?;
+        let broken = Judgement::Breaks { line: 3, rule: 8 };
+        assert_eq!(rt; checked(rt, text.as_bytes())?, broken);
+    }
+    let twice =
+        b"issue 7 reliable 000102030405060708090a0b0c0d0e0f\nissue 7 lossy 000102030405060708090a0b0c0d0e0f";
+    assert_eq!(rt; checked(rt, twice)?, Judgement::Breaks { line: 2, rule: 8 });
     Ok(())
 }

@@ -1,11 +1,11 @@
 -- From what a command came to, to its row of the table, of which all or a front was printed.
-use Rattle.std.proofs.Common.{◌≡◌, ◌≢◌, ℕ, ◌⊎◌, inl, inr, List, Option, Result, Ok, Err, sym, ap, ◌∙◌, subst, arith}
+use Rattle.std.proofs.Common.{◌≡◌, ◌≢◌, ℕ, inl, inr, List, Option, Result, Ok, Err, sym, ◌∙◌, subst, arith}
 use Rattle.std.specs.Prelude.{IsErrOf}
 use Rattle.mt_outside.specs.Faults.{Counts, Rose}
 use Rattle.mt_outside.specs.Files.{Contents}
 use Rattle.rdpmt_program.specs.declared.fault.Fault.{Fault}
-use Rattle.rdpmt_program.specs.declared.fault.Fault.TheVariants.{Usage, Refused, File, Limit, NoMemory}
-use Rattle.rdpmt_program.specs.Table.{Row, done, usage, refused, file_fault, no_memory, limit, RefusesLine, Reports, WritesAll, WritesFront}
+use Rattle.rdpmt_program.specs.declared.fault.Fault.TheVariants.{Usage, Refused, Broken, File, Limit, NoMemory}
+use Rattle.rdpmt_program.specs.Table.{Row, done, usage, refused, broken, file_fault, no_memory, limit, RefusesLine, BreaksRule, Reports, WritesAll, WritesFront}
 use Rattle.rdpmt_program.specs.Fate.{Runs, Tells, Printed}
 
 -- the counts of a store and a sink
@@ -18,6 +18,7 @@ row_of : (ws : List (List ℕ)) (told : Option Contents) (before after : Counts)
 row_of ws told before after (Ok report) status output h t = done (subst (Reports ws told) (sym t.1) h) t.0
 row_of ws told before after (Err Usage) status output h t = usage h t.1 t.0
 row_of ws told before after (Err (Refused line)) status output h t = refused (subst (RefusesLine ws told) (sym t.1) h) t.0
+row_of ws told before after (Err (Broken line)) status output h t = broken (subst (BreaksRule ws told) (sym t.1) h) t.0
 row_of ws told before after (Err File) status output h t = file_fault h.0 h.1 t.1 t.0
 row_of ws told before after (Err NoMemory) status output h t = no_memory h t.1 t.0
 row_of ws told before after (Err Limit) status output h t = limit h t.1 t.0
@@ -27,6 +28,7 @@ not_four : {ws : List (List ℕ)} {told : Option Contents} {before after : Count
 not_four (done reports s) four = omega (arith, s, four)
 not_four (usage none out s) four = omega (arith, s, four)
 not_four (refused why s) four = omega (arith, s, four)
+not_four (broken why s) four = omega (arith, s, four)
 not_four (file_fault is rose out s) four = omega (arith, s, four)
 not_four (no_memory is out s) four = omega (arith, s, four)
 not_four (limit passes out s) four = omega (arith, s, four)
@@ -36,6 +38,7 @@ pub of_done : {ws : List (List ℕ)} {told : Option Contents} {before after : Co
 of_done (done reports s) zero = reports
 of_done (usage none out s) zero = absurd (omega (arith, s, zero))
 of_done (refused why s) zero = absurd (omega (arith, s, zero))
+of_done (broken why s) zero = absurd (omega (arith, s, zero))
 of_done (file_fault is rose out s) zero = absurd (omega (arith, s, zero))
 of_done (no_memory is out s) zero = absurd (omega (arith, s, zero))
 of_done (limit passes out s) zero = absurd (omega (arith, s, zero))

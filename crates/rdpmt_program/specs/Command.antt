@@ -22,9 +22,14 @@ pub record IsShow (words : List (List ℕ)) (file : List ℕ) : Type 0 where
   pub words_are : words ≡ codes "show" ∷ file ∷ []
   pub no_option : ¬ IsOption file
 
+-- the words are `check` and the name of a capture, which is no option
+pub record IsCheck (words : List (List ℕ)) (capture : List ℕ) : Type 0 where
+  pub words_are : words ≡ codes "check" ∷ capture ∷ []
+  pub no_option : ¬ IsOption capture
+
 -- the words are those of a command that reads the file of this name
 abbrev pub AsksFor : List (List ℕ) → List ℕ → Type 0
-AsksFor words name = IsPlay words name ⊎ IsShow words name
+AsksFor words name = IsPlay words name ⊎ IsShow words name ⊎ IsCheck words name
 
 -- the words of a command
 abbrev pub IsCommand : List (List ℕ) → Type 0

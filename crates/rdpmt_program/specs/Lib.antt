@@ -1,5 +1,6 @@
 pub mod Command
 pub mod Script
+pub mod Captures
 pub mod Table
 pub mod Fate
 pub mod Outcome

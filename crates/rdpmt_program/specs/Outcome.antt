@@ -2,8 +2,8 @@
 use Rattle.std.specs.Prelude.{◌≡◌, ◌≢◌, ◌⊎◌, ℕ, List, Option}
 use Rattle.mt_outside.specs.Faults.{Counts, Rose, Calm}
 use Rattle.mt_outside.specs.Files.{Contents}
-use Rattle.rdpmt_program.specs.Command.{IsPlay, IsShow}
-use Rattle.rdpmt_program.specs.Table.{Row, WritesAll, WritesFront, Names, IsPlayable, IsShowable}
+use Rattle.rdpmt_program.specs.Command.{IsPlay, IsShow, IsCheck}
+use Rattle.rdpmt_program.specs.Table.{Row, WritesAll, WritesFront, Names, IsPlayable, IsShowable, IsHolding}
 
 -- A call with these words answered this status. The store told this of its files, the counts of
 -- faults were `before` and are `after`, and the sink told `old` as written and tells `new`.
@@ -20,3 +20,5 @@ pub record Outcome (words : List (List ℕ)) (told : Option Contents) (before af
   pub complete : (text : List ℕ) → Names (IsPlay words) told text → IsPlayable text → Calm before after → (status ≡ 0) ⊎ (status ≡ 9)
   -- so does a show file whose lines keep the grammar get its answers
   pub complete_show : (text : List ℕ) → Names (IsShow words) told text → IsShowable text → Calm before after → (status ≡ 0) ⊎ (status ≡ 9)
+  -- and a capture that keeps its rules is said to
+  pub complete_check : (text : List ℕ) → Names (IsCheck words) told text → IsHolding text → Calm before after → (status ≡ 0) ⊎ (status ≡ 9)

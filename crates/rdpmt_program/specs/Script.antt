@@ -65,10 +65,10 @@ pub data IsRefused (text output : List ℕ) : Type 0 where
   step : (lines : List Line) (list : Trace (Role × Entry)) (line : ℕ) (why : Cause) → ReadsAs text (Ok lines)
       → play start lines ≡ (list, RefusedAt line (refusal_of why)) → output ≡ refused_line line (cause_name why) → IsRefused text output
 
--- the most bytes that a script or a show file has
+-- the most bytes that a script, a show file or a capture has
 abbrev pub byte_limit : ℕ
 byte_limit = 268435456
 
--- the text is longer than a script or a show file may be
+-- the text is longer than a script, a show file or a capture may be
 abbrev pub IsTooLong : List ℕ → Type 0
 IsTooLong text = (byte_limit < length text) ⊎ (line_limit < length (lines_of text))

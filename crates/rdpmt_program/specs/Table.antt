@@ -13,7 +13,11 @@ use Rattle.mt_world.specs.Play.{start, play, Done}
 use Rattle.mt_outside.specs.Faults.{Counts, Rose}
 use Rattle.mt_outside.specs.Files.{Contents, Holds, Lacks}
 use Rattle.mt_outside.specs.Told.{added}
-use Rattle.rdpmt_program.specs.Command.{IsPlay, IsShow, AsksFor, IsCommand, usage_line}
+use Rattle.capture_check.specs.declared.entry.CaptureRefusal.TheVariants as capture
+use Rattle.capture_check.specs.declared.judgement.Judgement.TheVariants as verdict
+use Rattle.capture_check.specs.Meaning.{ReadsAs as ReadsAsCapture}
+use Rattle.rdpmt_program.specs.Captures.{IsJudged, holds_line, broken_line}
+use Rattle.rdpmt_program.specs.Command.{IsPlay, IsShow, IsCheck, AsksFor, IsCommand, usage_line}
 use Rattle.rdpmt_program.specs.Script.{PlaysTo, IsRefused, IsTooLong, byte_limit, refused_line}
 
 -- The text of the file of this name, within the limit of its bytes: the file's content, wherever
@@ -30,12 +34,15 @@ pub record IsText (IsName : List ℕ → Type 0) (told : Option Contents) (text 
   pub named : IsName name
   pub is_text : IsTextOf told name text
 
--- the text of the script that the words name, or of the show file
+-- the text of the script that the words name, of the show file, or of the capture
 abbrev pub IsScript : List (List ℕ) → Option Contents → List ℕ → Type 0
 IsScript words = IsText (IsPlay words)
 
 abbrev pub IsShowFile : List (List ℕ) → Option Contents → List ℕ → Type 0
 IsShowFile words = IsText (IsShow words)
+
+abbrev pub IsCapture : List (List ℕ) → Option Contents → List ℕ → Type 0
+IsCapture words = IsText (IsCheck words)
 
 -- the words name a file that is longer than one may be, wherever the store tells its content
 pub record PassesLimit (words : List (List ℕ)) (told : Option Contents) : Type 0 where
@@ -53,17 +60,29 @@ no_memory_line = codes "no memory" ++ 10 ∷ []
 abbrev pub limit_line : List ℕ
 limit_line = codes "limit" ++ 10 ∷ []
 
--- What is printed of the file that the words name: the report of a script, or the answers to the
--- lines of a show file.
+-- What is printed of the file that the words name: the report of a script, the answers to the lines
+-- of a show file, or that a capture keeps its rules.
 pub data Reports (words : List (List ℕ)) (told : Option Contents) (output : List ℕ) : Type 0 where
   script_report : (text : List ℕ) → IsScript words told text → PlaysTo text output → Reports words told output
   show_answers : (text : List ℕ) → IsShowFile words told text → ShownAs text (Ok output) → Reports words told output
+  capture_holds : (text : List ℕ) → IsCapture words told text → IsJudged text verdict.Holds → output ≡ holds_line → Reports words told output
 
 -- What is printed of a line of that file which is refused.
 pub data RefusesLine (words : List (List ℕ)) (told : Option Contents) (output : List ℕ) : Type 0 where
   script_line : (text : List ℕ) → IsScript words told text → IsRefused text output → RefusesLine words told output
   show_line : (text : List ℕ) (line : ℕ) → IsShowFile words told text → ShownAs text (Err (BadLine line))
       → output ≡ refused_line line (codes "BadLine") → RefusesLine words told output
+  capture_line : (text : List ℕ) (line : ℕ) → IsCapture words told text → ReadsAsCapture text (Err (capture.BadLine line))
+      → output ≡ refused_line line (codes "BadLine") → RefusesLine words told output
+
+-- What is printed of a line of that file, a capture, which is the first that breaks a rule.
+pub record BreaksRule (words : List (List ℕ)) (told : Option Contents) (output : List ℕ) : Type 0 where
+  pub text : List ℕ
+  pub line : ℕ
+  pub rule : ℕ
+  pub is_capture : IsCapture words told text
+  pub judged : IsJudged text (verdict.Breaks line rule)
+  pub output_is : output ≡ broken_line line rule
 
 -- The table: a status, the cause that it comes from alone, and what is printed. The store told this
 -- of its files, and the counts of faults were `before` and are `after`.
@@ -71,6 +90,7 @@ pub data Row (words : List (List ℕ)) (told : Option Contents) (before after : 
   done : Reports words told output → status ≡ 0 → Row words told before after status output
   usage : ¬ IsCommand words → output ≡ usage_line → status ≡ 1 → Row words told before after status output
   refused : RefusesLine words told output → status ≡ 2 → Row words told before after status output
+  broken : BreaksRule words told output → status ≡ 8 → Row words told before after status output
   file_fault : IsCommand words → Rose before.store after.store → output ≡ file_fault_line → status ≡ 3 → Row words told before after status output
   no_memory : IsCommand words → output ≡ no_memory_line → status ≡ 9 → Row words told before after status output
   limit : PassesLimit words told → output ≡ limit_line → status ≡ 11 → Row words told before after status output
@@ -118,3 +138,21 @@ pub record IsUnshowable (text : List ℕ) : Type 0 where
   pub fits : length text ≤ byte_limit
   pub line : ℕ
   pub broken : ShownAs text (Err (BadLine line))
+
+-- a text within the limits that is a capture which keeps its rules
+pub record IsHolding (text : List ℕ) : Type 0 where
+  pub fits : length text ≤ byte_limit
+  pub judged : IsJudged text verdict.Holds
+
+-- a text within the limits that is a capture of which this line is the first that breaks a rule
+pub record IsBreaking (text : List ℕ) : Type 0 where
+  pub fits : length text ≤ byte_limit
+  pub line : ℕ
+  pub rule : ℕ
+  pub judged : IsJudged text (verdict.Breaks line rule)
+
+-- a text within the limits of which this line is the first that is none of a capture
+pub record IsUnreadable (text : List ℕ) : Type 0 where
+  pub fits : length text ≤ byte_limit
+  pub line : ℕ
+  pub broken : ReadsAsCapture text (Err (capture.BadLine line))

@@ -8,9 +8,12 @@ pub(crate) enum Fault {
     /// The words are not those of a command.
     #[error("the words are not those of a command")]
     Usage,
-    /// A line of the script is refused; this is what is printed of it.
+    /// A line of the file is refused; this is what is printed of it.
     #[error("a line is refused")]
     Refused(String),
+    /// A line of the capture breaks a rule; this is what is printed of it.
+    #[error("a line breaks a rule")]
+    Broken(String),
     /// The store failed.
     #[error("a file could not be read")]
     File,

@@ -1,13 +1,15 @@
 //! The program `rdpmt`: it plays a script of two ends of a session, and prints what each end sent
-//! and what was delivered of it; and it shows the datagrams of a show file.
+//! and what was delivered of it; it shows the datagrams of a show file; and it checks a capture.
 //!
 //! [`rdpmt`](top::rdpmt) is the whole program over a store of files and a sink; `main` gives it the
 //! words of the call and the machine's devices. Below it stand `mt_world`, which reads scripts and
-//! plays them, `mt_show`, which shows, and `mt_outside`, which has the devices. The contract of
+//! plays them, `mt_show`, which shows, `capture_check`, which judges captures, and `mt_outside`, which
+//! has the devices. The contract of
 //! `rdpmt` names the only cause of each status, and what is printed with it.
 #![tactic(auto)]
 
 mod cause;
+mod checking;
 mod fault;
 mod playing;
 mod print;

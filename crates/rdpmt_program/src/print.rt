@@ -24,6 +24,7 @@ pub(crate) fn tell<K: Sink>(out: &mut K, ended: Result<Text, Fault>) -> u8
         Err(Fault::Usage) => print(out, USAGE, 1),
         Err(Fault::Refused(line)) => print(out, line.as_bytes(), 2),
         Err(Fault::File) => print(out, b"file fault\n", 3),
+        Err(Fault::Broken(line)) => print(out, line.as_bytes(), 8),
         Err(Fault::NoMemory) => print(out, b"no memory\n", 9),
         Err(Fault::Limit) => print(out, b"limit\n", 11),
     }

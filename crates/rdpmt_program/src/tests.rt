@@ -93,6 +93,25 @@ fn a_show_file_is_shown_or_refused(rt: HostRuntime) -> Result<(), Fail> {
 }
 
 #[test]
+fn a_capture_is_checked_or_refused(rt: HostRuntime) -> Result<(), Fail> {
+    let rows = [
+        ("", 0, "holds\n"),
+        (
+            "in server reliable 0\nout server reliable 0 -\n",
+            8,
+            "broken line 1 rule 2\n",
+        ),
+        ("jump\n", 2, "refused line 1 BadLine\n"),
+    ];
+    for (text, wanted, output) in rows {
+        let (status, out) = call(rt.alloc(), &["check", "s"], text, [&[]; 2])?;
+        assert_eq!(rt; out.written(), output.as_bytes());
+        assert_eq!(rt; status, wanted);
+    }
+    Ok(())
+}
+
+#[test]
 fn faults_of_devices_are_answered(rt: HostRuntime) -> Result<(), Fail> {
     let rows: [(&str, [&[u64]; 2], u8, &str); 3] = [
         ("missing", [&[]; 2], 3, "file fault\n"),

@@ -2,17 +2,19 @@
 
 ghost use Rattle.std.specs.Prelude.{◌≡◌, ◌⊎◌, ℕ, List, IsErrOf};
 ghost use Rattle.mt_outside.specs.Faults.{Counts};
-ghost use Rattle.rdpmt_program.specs.Command.{words_of, IsPlay, IsShow, AsksFor, IsCommand};
+ghost use Rattle.rdpmt_program.specs.Command.{words_of, IsPlay, IsShow, IsCheck, AsksFor, IsCommand};
 ghost use Rattle.rdpmt_program.specs.Script.{IsTooLong};
-ghost use Rattle.rdpmt_program.specs.Table.{Reports, WritesAll, AskedFor, Names, IsRefusable, IsUnshowable};
+ghost use Rattle.rdpmt_program.specs.Table.{Reports, WritesAll, AskedFor, Names, IsRefusable, IsUnshowable, IsUnreadable, IsBreaking};
 ghost use Rattle.rdpmt_program.specs.Outcome.{Outcome};
 ghost use Rattle.rdpmt_program.specs.Fate.{Runs};
 
+use crate::checking::check_file;
 use crate::fault::Fault;
 use crate::playing::play_script;
 use crate::print::tell;
 use crate::showing::show_file;
 use crate::words::{Command, read_words};
+use capture_check::{one_answer as one_capture, one_judgement};
 use mt_outside::{FileStore, Sink};
 use mt_script::one_answer;
 use mt_show::one_output;
@@ -40,18 +42,22 @@ pub fn rdpmt<F: FileStore, K: Sink>(
         let after : Counts = record { store = F.faults files.new; sink = K.faults out.new } in
         Outcome (words_of words.now.items) (F.told files.old) before after (K.written out.old) (K.written out.new) result }
 
-    // Nothing else comes where the words are no command's, where a file passes a limit, and where a
-    // line of a script or of a show file is refused.
+    // Nothing else comes where the words are no command's, where a file passes a limit, where a line
+    // of a script, a show file or a capture is refused, and where a line of a capture breaks a rule.
     ensures usage { ¬ IsCommand (words_of words.now.items) → (result ≡ 1) ⊎ (result ≡ 4) }
     ensures limit { (text : List ℕ) → Names (AsksFor (words_of words.now.items)) (F.told files.old) text → IsTooLong text → (result ≡ 11) ⊎ (result ≡ 3) ⊎ (result ≡ 4) ⊎ (result ≡ 9) }
     ensures refused { (text : List ℕ) → Names (IsPlay (words_of words.now.items)) (F.told files.old) text → IsRefusable text → (result ≡ 2) ⊎ (result ≡ 3) ⊎ (result ≡ 4) ⊎ (result ≡ 9) }
     ensures refused_show { (text : List ℕ) → Names (IsShow (words_of words.now.items)) (F.told files.old) text → IsUnshowable text → (result ≡ 2) ⊎ (result ≡ 3) ⊎ (result ≡ 4) ⊎ (result ≡ 9) }
+    ensures refused_capture { (text : List ℕ) → Names (IsCheck (words_of words.now.items)) (F.told files.old) text → IsUnreadable text → (result ≡ 2) ⊎ (result ≡ 3) ⊎ (result ≡ 4) ⊎ (result ≡ 9) }
+    ensures broken { (text : List ℕ) → Names (IsCheck (words_of words.now.items)) (F.told files.old) text → IsBreaking text → (result ≡ 8) ⊎ (result ≡ 3) ⊎ (result ≡ 4) ⊎ (result ≡ 9) }
 
     ensures names { AskedFor (words_of words.now.items) (F.named files.old) (F.named files.new) }
     ensures same { F.told files.new ≡ F.told files.old }
 {
     one_answer();
     one_output();
+    one_capture();
+    one_judgement();
     let ended = run(alloc, words, files);
     tell(out, ended)
 }
@@ -66,6 +72,7 @@ fn run<F: FileStore>(alloc: Global, words: &Vec<String>, files: &mut F) -> Resul
     match read_words(words) {
         Some(Command::Play(script)) => play_script(alloc, files, script),
         Some(Command::Show(file)) => show_file(alloc, files, file),
+        Some(Command::Check(capture)) => check_file(alloc, files, capture),
         None => Err(Fault::Usage),
     }
 }

@@ -11,6 +11,8 @@ pub(crate) enum Command<'a> {
     Play(&'a str),
     /// `show FILE`: the show file of this name is shown.
     Show(&'a str),
+    /// `check CAPTURE`: the capture of this name is checked.
+    Check(&'a str),
 }
 
 /// The command that these words are, `None` where they are not those of one.
@@ -33,6 +35,7 @@ fn command_of<'a>(first: &str, name: &'a str) -> Option<Command<'a>>
     match first {
         "play" => Some(Command::Play(name)),
         "show" => Some(Command::Show(name)),
+        "check" => Some(Command::Check(name)),
         _ => None,
     }
 }

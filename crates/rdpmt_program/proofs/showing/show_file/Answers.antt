@@ -1,4 +1,4 @@
-use Rattle.std.proofs.Common.{inr, subst}
+use Rattle.std.proofs.Common.{inl, inr, subst}
 use Rattle.rdpmt_program.specs.Fate.{GivesShown}
 use Rattle.rdpmt_program.proofs.Runs.{by_show, by_fault}
 use Rattle.rdpmt_program.proofs.showing.show_file.Goals as goal
@@ -9,4 +9,4 @@ returns-in-Ok-clause-cause g c = λ words named.
 
 pub returns-in-Err-clause-cause : goal.returns-in-Err-clause-cause
 returns-in-Err-clause-cause g c = λ words named.
-    by_fault words _ _ _ c.args.name.now c.in-Err.fault (inr named) c.in-Err.ensures.cause
+    by_fault words _ _ _ c.args.name.now c.in-Err.fault (inr (inl named)) c.in-Err.ensures.cause

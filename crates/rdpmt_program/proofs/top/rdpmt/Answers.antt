@@ -1,6 +1,6 @@
 use Rattle.std.proofs.Common.{◌≡◌, ◌⊎◌, inl, inr, refl}
 use Rattle.rdpmt_program.proofs.Rows.{ended_of, calm_store, played_to_end, either}
-use Rattle.rdpmt_program.proofs.Causes.{outcome, of_usage, of_limit, of_refusable, of_unshowable}
+use Rattle.rdpmt_program.proofs.Causes.{outcome, of_usage, of_limit, of_refusable, of_unshowable, of_unreadable, of_breaking}
 use Rattle.rdpmt_program.proofs.top.rdpmt.Goals as goal
 
 pub returns-clause-done : goal.returns-clause-done
@@ -8,7 +8,7 @@ returns-clause-done g c = played_to_end (ended_of _ _ _ _ c.run-ended.result _ _
 
 pub returns-clause-outcome : goal.returns-clause-outcome
 returns-clause-outcome g c =
-    outcome c.one_answer.ensures.one (record { one = c.one_output.ensures.one; kept = c.one_output.ensures.kept })
+    outcome c.one_answer.ensures.one (record { one = c.one_output.ensures.one; kept = c.one_output.ensures.kept }) (record { one = c.one_answer-2.ensures.one; judged = c.one_judgement.ensures.one })
     (ended_of _ _ _ _ c.run-ended.result _ _ _ _ _ c.run-ended.ensures.cause c.tell.ensures)
     (calm_store c.run-ended.result _ _ _ _ _ _ _ c.run-ended.ensures.counts c.tell.ensures)
 
@@ -32,3 +32,15 @@ returns-clause-refused_show g c = λ text names unshowable.
     either (ended_of _ _ _ _ c.run-ended.result _ _ _ _ _ c.run-ended.ensures.cause c.tell.ensures)
     (λ s. (s ≡ 2) ⊎ (s ≡ 3) ⊎ (s ≡ 4) ⊎ (s ≡ 9))
     (of_unshowable (record { one = c.one_output.ensures.one; kept = c.one_output.ensures.kept }) text names unshowable) (λ rose. inr (inr (inl refl)))
+
+pub returns-clause-refused_capture : goal.returns-clause-refused_capture
+returns-clause-refused_capture g c = λ text names unreadable.
+    either (ended_of _ _ _ _ c.run-ended.result _ _ _ _ _ c.run-ended.ensures.cause c.tell.ensures)
+    (λ s. (s ≡ 2) ⊎ (s ≡ 3) ⊎ (s ≡ 4) ⊎ (s ≡ 9))
+    (of_unreadable (record { one = c.one_answer-2.ensures.one; judged = c.one_judgement.ensures.one }) text names unreadable) (λ rose. inr (inr (inl refl)))
+
+pub returns-clause-broken : goal.returns-clause-broken
+returns-clause-broken g c = λ text names breaking.
+    either (ended_of _ _ _ _ c.run-ended.result _ _ _ _ _ c.run-ended.ensures.cause c.tell.ensures)
+    (λ s. (s ≡ 8) ⊎ (s ≡ 3) ⊎ (s ≡ 4) ⊎ (s ≡ 9))
+    (of_breaking (record { one = c.one_answer-2.ensures.one; judged = c.one_judgement.ensures.one }) text names breaking) (λ rose. inr (inr (inl refl)))
