@@ -1,0 +1,5 @@
+pub mod Files
+pub mod Kept
+pub mod Names
+pub mod Read
+pub mod Written
