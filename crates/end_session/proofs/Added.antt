@@ -180,6 +180,12 @@ pub heard_lossy : (s now : Store) (t : Trace Act) (heard : Heard) (gone : Gone) 
 heard_lossy s now t heard gone same before after =
     lossy_same s now t (t ▷ Hears heard) gone 12 9 same (shorter t t (Hears heard) (whole t)) (more_by s.role t (Hears heard) 12 9 0 (heard_short s.role t heard)) before after
 
+-- a frame that writes nothing
+pub heard_quiet : (s now : Store) (t : Trace Act) (heard : Heard) (gone : Gone) → now.role ≡ s.role → adds s.role t (Hears heard) ≡ [] → Stands s t gone → Stands now (t ▷ Hears heard) gone
+    → length (waiting_for Reliable now.outgoing) ≤ length (waiting_for Reliable s.outgoing) + 0
+heard_quiet s now t heard gone same none before after =
+    (longer s now t (t ▷ Hears heard) gone 0 0 0 same (more_by s.role t (Hears heard) 0 0 0 (subst (λ w. AreShort w 0 0 0) (sym none) (nothing_short 0 0 0))) before after).1
+
 -- ---- requests are answered
 
 answers_short : (role : Role) (t : Trace Act) (named : Kinds) → AreShort (adds role t (Answers named)) 17 0 0

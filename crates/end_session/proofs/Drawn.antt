@@ -97,17 +97,18 @@ missed_refusal Client k t = refl
 missed_tells : (role : Role) (k : Kind) (t : Trace Act) → TellsNothing role k t Misses
 missed_tells role k t = record { no_request = refl; no_link = refl; no_verdict = refl; no_answer = refl; no_refusal = missed_refusal role k t; no_silence = refl }
 
+pub still_missed : (role : Role) (t : Trace Act) → IsStill role t Misses
+still_missed role t = record {
+  reliable = missed_tells role Reliable t;
+  lossy = missed_tells role Lossy t;
+  says = record { none_made = refl; none_read = refl; no_answer_read = refl; no_answer_made = refl; no_version = refl; no_capabilities = refl };
+  none_issued = refl;
+}
+
 pub missed : (s : Store) (t : Trace Act) (gone : Gone) → Stands s t gone → Stands s (t ▷ Misses) gone
 missed s t gone st =
     let k = st.knows in
-    unmoved s t gone Misses st (sym (ap not k.begun), (tt, tt), k.lawful)
-    (record {
-      reliable = missed_tells s.role Reliable t;
-      lossy = missed_tells s.role Lossy t;
-      says = record { none_made = refl; none_read = refl; no_answer_read = refl; no_answer_made = refl; no_version = refl; no_capabilities = refl };
-      none_issued = refl;
-    })
-    refl refl (λ k. refl)
+    unmoved s t gone Misses st (sym (ap not k.begun), (tt, tt), k.lawful) (still_missed s.role t) refl refl (λ k. refl)
 
 -- ---- a create request at a client
 

@@ -14,7 +14,7 @@ use Rattle.end_session.specs.Standing.{Gone, Stands}
 use Rattle.end_session.specs.Store.{Store}
 use Rattle.end_session.proofs.AnswersMade.{of_client}
 use Rattle.end_session.proofs.Drawn.{still}
-use Rattle.end_session.proofs.Still.{known_still, read_still}
+use Rattle.end_session.proofs.Still.{IsStill, known_still, read_still}
 
 oldest_same : (s : Store) (t : Trace Act) (requests : List Request) → s.reliable ≡ known Client Reliable t → s.lossy ≡ known Client Lossy t → oldest_due t requests ≡ oldest_due_in s requests
 oldest_same s t [] reliable lossy = refl
@@ -30,10 +30,12 @@ due_same s t read_is reliable lossy = ap (λ xs. oldest_due t (unanswered_in xs)
 pub due_is : (s : Store) (t : Trace Act) (gone : Gone) → s.role ≡ Client → Stands s t gone → due t ≡ due_in s
 due_is s t gone is st = let k = of_client s t gone is st in due_same s t (k.words_are).read_are k.reliable_is k.lossy_is
 
--- and a channel PDU that is pulled makes no answer due
-pub due_drawn : (s : Store) (t : Trace Act) (gone : Gone) (kind : Kind) (place : ℕ) (bytes : List ℕ) (pdu : Pdu) → s.role ≡ Client → Stands s t gone → due (t ▷ Draws kind place (Carried bytes pdu)) ≡ due_in s
-due_drawn s t gone kind place bytes pdu is st =
+-- and an act that tells nothing makes no answer due
+pub due_still : (s : Store) (t : Trace Act) (gone : Gone) (act : Act) → s.role ≡ Client → Stands s t gone → IsStill Client t act → due (t ▷ act) ≡ due_in s
+due_still s t gone act is st i =
     let k = of_client s t gone is st in
-    let act = Draws kind place (Carried bytes pdu) in
-    let i = still Client kind t place (Carried bytes pdu) (λ k. refl) in
     due_same s (t ▷ act) ((k.words_are).read_are ∙ sym (read_still t act i.says)) (k.reliable_is ∙ sym (known_still Client Reliable t act i.reliable)) (k.lossy_is ∙ sym (known_still Client Lossy t act i.lossy))
+
+-- as a channel PDU that is pulled
+pub due_drawn : (s : Store) (t : Trace Act) (gone : Gone) (kind : Kind) (place : ℕ) (bytes : List ℕ) (pdu : Pdu) → s.role ≡ Client → Stands s t gone → due (t ▷ Draws kind place (Carried bytes pdu)) ≡ due_in s
+due_drawn s t gone kind place bytes pdu is st = due_still s t gone (Draws kind place (Carried bytes pdu)) is st (still Client kind t place (Carried bytes pdu) (λ k. refl))

@@ -1,5 +1,6 @@
 -- Channel PDUs that are pulled from the links are held.
 use Rattle.std.proofs.Common.{◌≡◌, ℕ, ◌+◌, ◌<◌, ◌≤◌, All, Bool, true, false, cond, not, ◌&&◌, ◌||◌, nat_le, List, [], ◌∷◌, ◌++◌, length, Option, Some, None, IfSome, IfNone, Ok, refl, sym, ap, subst, ◌∙◌, arith}
+use Rattle.std.proofs.lemmas.Bool.{le-leb, lt-leb}
 use Rattle.mt_base.specs.Ends.{other}
 use Rattle.mt_base.specs.declared.kinds.Kind.{Kind}
 use Rattle.mt_base.specs.declared.kinds.Kind.TheVariants.{Reliable, Lossy}
@@ -24,6 +25,7 @@ use Rattle.mt_endpoint.specs.Said.{Said, Capable, Creates, Created, Brings, Ends
 use Rattle.mt_endpoint.specs.Tunnels.{is_open}
 use Rattle.mt_endpoint.specs.World.{IsJudged, is_begun}
 use Rattle.end_calls.specs.Streams.{told_place}
+use Rattle.end_session.specs.Behind.{IsAhead}
 use Rattle.end_session.specs.Drawing.{IsHeldBeside, drawn_fault, held_of}
 use Rattle.end_session.specs.Known.{is_open_in}
 use Rattle.end_session.specs.Standing.{AreKept, Gone, IsKeptAs, Stands}
@@ -172,21 +174,30 @@ pub not_lone : (role : Role) (t : Trace Act) (kind : Kind) (bytes : List ℕ) (p
 not_lone role t Reliable bytes pdu queue of e some none closed = absurd (let never : Reliable ≡ Lossy = e in cc)
 not_lone role t Lossy bytes pdu queue of e some none closed = by_lone role t bytes queue of (lone pdu) some none closed
 
-pub held_lone : (s : Store) (t : Trace Act) (gone : Gone) (kind : Kind) (size id : ℕ) (bytes : List ℕ) (pdu : Pdu) (b : Bool) → kind ≡ Lossy → lone pdu ≡ id ∷ [] → is_for_open s.role t (Some id) ≡ true → length bytes ≡ size
-    → b ≡ is_through Lossy (words.inward id s.paths) || nat_le (16 + size + hold.weight s.held_lossy) 1048576 → Stands s t gone → is_held s.role kind t bytes pdu (held s.role kind t) ≡ b
-held_lone s t gone Reliable size id bytes pdu b e of opened len is st = absurd (let never : Reliable ≡ Lossy = e in cc)
-held_lone s t gone Lossy size id bytes pdu b e of opened len is st =
+held_lone : (s : Store) (t : Trace Act) (gone : Gone) (kind : Kind) (size id : ℕ) (bytes : List ℕ) (pdu : Pdu) → kind ≡ Lossy → lone pdu ≡ id ∷ [] → is_for_open s.role t (Some id) ≡ true → is_through kind (words.inward id s.paths) ≡ false → length bytes ≡ size
+    → Stands s t gone → is_held s.role kind t bytes pdu (held s.role kind t) ≡ nat_le (16 + size + hold.weight s.held_lossy) 1048576
+held_lone s t gone Reliable size id bytes pdu e of opened ahead len st = absurd (let never : Reliable ≡ Lossy = e in cc)
+held_lone s t gone Lossy size id bytes pdu e of opened ahead len st =
     ap (λ ids. may_hold s.role t ids bytes (held s.role Lossy t)) of ∙ ap (λ b. b && (is_through Lossy (inward id t) || fits bytes (held s.role Lossy t))) opened
     ∙ ap (λ path. is_through Lossy path || fits bytes (held s.role Lossy t)) (sym (inward_is s t gone id st))
-    ∙ ap (λ n. is_through Lossy (words.inward id s.paths) || nat_le (16 + n + weight (held s.role Lossy t)) 1048576) len
-    ∙ ap (λ n. is_through Lossy (words.inward id s.paths) || nat_le (16 + size + n) 1048576) (weights_same (held s.role Lossy t) s.held_lossy (st.knows).lossy_held) ∙ sym is
+    ∙ ap (λ b. b || fits bytes (held s.role Lossy t)) ahead
+    ∙ ap (λ n. nat_le (16 + n + weight (held s.role Lossy t)) 1048576) len
+    ∙ ap (λ n. nat_le (16 + size + n) 1048576) (weights_same (held s.role Lossy t) s.held_lossy (st.knows).lossy_held)
 
--- of what the call looked at
-pub if_placed : (s : Store) (t : Trace Act) (gone : Gone) (kind : Kind) (size id : ℕ) (bytes : List ℕ) (pdu : Pdu) (of : Option ℕ) (b : Bool) → kind ≡ Lossy → of ≡ Some id → IfSome of (λ id. lone pdu ≡ id ∷ []) → is_for_open s.role t of ≡ true
-    → length bytes ≡ size → b ≡ is_through Lossy (words.inward id s.paths) || nat_le (16 + size + hold.weight s.held_lossy) 1048576 → Stands s t gone → is_held s.role kind t bytes pdu (held s.role kind t) ≡ b
-if_placed s t gone kind size id bytes pdu of b e found alone opened len is st =
+-- by what the call looked at
+pub if_room : (s : Store) (t : Trace Act) (gone : Gone) (kind : Kind) (size id : ℕ) (bytes : List ℕ) (pdu : Pdu) (of : Option ℕ) → kind ≡ Lossy → of ≡ Some id → IfSome of (λ id. lone pdu ≡ id ∷ []) → IfSome of (λ id. channel_of pdu ≡ Some id)
+    → is_for_open s.role t of ≡ true → IsAhead kind pdu s → length bytes ≡ size → Stands s t gone → is_held s.role kind t bytes pdu (held s.role kind t) ≡ nat_le (16 + size + hold.weight s.held_lossy) 1048576
+if_room s t gone kind size id bytes pdu of e found alone channel opened ahead len st =
     let at_one : lone pdu ≡ id ∷ [] = subst (λ o. IfSome o (λ id. lone pdu ≡ id ∷ [])) found alone in
-    held_lone s t gone kind size id bytes pdu b e at_one (ap (is_for_open s.role t) (sym found) ∙ opened) len is st
+    let of_one : channel_of pdu ≡ Some id = subst (λ o. IfSome o (λ id. channel_of pdu ≡ Some id)) found channel in
+    held_lone s t gone kind size id bytes pdu e at_one (ap (is_for_open s.role t) (sym found) ∙ opened) (ahead id of_one) len st
+
+-- the room that is left is enough for it, or isn't
+pub fits_in : (u s : Store) (size room : ℕ) → u ≡ s → 16 + size ≤ room → room + hold.weight u.held_lossy ≡ 1048576 → nat_le (16 + size + hold.weight s.held_lossy) 1048576 ≡ true
+fits_in u s size room is h all = le-leb (16 + size + hold.weight s.held_lossy) 1048576 (omega (arith, h, all, ap (λ (x : Store). hold.weight x.held_lossy) is))
+
+pub fits_not : (u s : Store) (size room : ℕ) → u ≡ s → room < 16 + size → room + hold.weight u.held_lossy ≡ 1048576 → nat_le (16 + size + hold.weight s.held_lossy) 1048576 ≡ false
+fits_not u s size room is h all = lt-leb (16 + size + hold.weight s.held_lossy) 1048576 (omega (arith, h, all, ap (λ (x : Store). hold.weight x.held_lossy) is))
 
 -- ---- what the call left
 

@@ -1,5 +1,5 @@
-mod Added
-mod AllAnswered
+pub mod Added
+pub mod AllAnswered
 mod AnswersHeard
 mod AnswersMade
 mod Behind
@@ -11,31 +11,33 @@ mod ChannelsMoved
 mod ChannelsOpened
 mod ClosesPassed
 mod ClosesReleased
-mod DataHeard
+pub mod DataHeard
 mod Drawn
-mod DueKept
+pub mod DueKept
 mod FewListed
 mod FrameHeard
 mod Freed
 mod GivenOut
 mod Heard
+mod HeldRoom
 mod Judged
 mod Kept
-mod KnownOf
+pub mod KnownOf
 mod LetGo
 mod MessagesSent
 mod MessagesTaken
 mod MovesHeard
 mod Naming
 mod OldestFound
-mod OnWay
+pub mod OnWay
 mod OneTunnel
 mod Passed
+mod Pulled
 mod Putting
 mod Readings
 mod Reread
 mod Sizes
-mod Still
+pub mod Still
 mod Telling
 mod ToldOf
 mod TunnelsAsked
@@ -43,4 +45,6 @@ mod TunnelsAttached
 mod TunnelsHeard
 mod TunnelsRefused
 mod WholeHeard
+mod MainRoom
 mod Worded
+mod Wrote

@@ -120,6 +120,7 @@ pub record IsOnWay (s now : Store) (all left : List (ℕ × Kind)) : Type 0 wher
   pub room : HasRoomFor (length all) s.outgoing
   pub role_is : now.role ≡ s.role
   pub broken_is : now.broken ≡ s.broken
+  pub owed_is : now.owed ≡ s.owed
   pub words_are : (id : ℕ) → inward id now.paths ≡ inward id s.paths
   pub made_are : (t : Trace Act) (gone : Gone) → Stands s t gone → (now.paths).made ≡ (s.paths).made
   pub through : AreThrough left s.paths
@@ -134,6 +135,7 @@ begin s all is_whole h room = record {
   room = room;
   role_is = refl;
   broken_is = refl;
+  owed_is = refl;
   words_are = λ id. refl;
   made_are = λ t gone st. refl;
   through = h;
@@ -151,6 +153,7 @@ pub record IsStep (now after : Store) : Type 0 where
   pub words_are : (id : ℕ) → inward id after.paths ≡ inward id now.paths
   pub role_is : after.role ≡ now.role
   pub broken_is : after.broken ≡ now.broken
+  pub owed_is : after.owed ≡ now.owed
 
 -- the next one is released
 pub onward : (s now after : Store) (all left : List (ℕ × Kind)) (id : ℕ) (kind : Kind) → IsOnWay s now all ((id, kind) ∷ left) → IsStep now after
@@ -160,6 +163,7 @@ onward s now after all left id kind w step came = record {
   room = w.room;
   role_is = step.role_is ∙ w.role_is;
   broken_is = step.broken_is ∙ w.broken_is;
+  owed_is = step.owed_is ∙ w.owed_is;
   words_are = λ made. step.words_are made ∙ w.words_are made;
   made_are = λ t gone st.
       let v = w.stands t gone st in

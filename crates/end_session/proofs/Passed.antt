@@ -60,7 +60,7 @@ none_kept id (h ∷ queue) (p ∷ pdus) k e = ap (λ o. cond (is_of id o) (h ∷
   by_test true e deeper = absurd (let never : Some p ≡ None = e in cc)
   by_test false e deeper = deeper e
 
-quiet_by : (role : Role) (t : Trace Act) → (role ≡ Client → due t ≡ None) → answered role t ≡ t
+pub quiet_by : (role : Role) (t : Trace Act) → (role ≡ Client → due t ≡ None) → answered role t ≡ t
 quiet_by Server t h = refl
 quiet_by Client t h = done t (h refl)
 
@@ -159,7 +159,7 @@ pub record IsGiven (s : Store) (kind : Kind) (place at id : ℕ) (bytes : List �
   pub where_at : at ≡ told_place place
 
 -- it is of the channel that it is behind
-same_channel : (a : Option ℕ) (x y : ℕ) → a ≡ Some x → a ≡ Some y → x ≡ y
+pub same_channel : (a : Option ℕ) (x y : ℕ) → a ≡ Some x → a ≡ Some y → x ≡ y
 same_channel a x y e f = let same : Some x ≡ Some y = sym e ∙ f in cc
 
 pub given_at_once : (s : Store) (t : Trace Act) (gone : Gone) (kind : Kind) (place at id : ℕ) (bytes : List ℕ) (pdu : Pdu) → IsGiven s kind place at id bytes pdu → Stands s t gone → IsAtOnce s.role kind t place bytes pdu id

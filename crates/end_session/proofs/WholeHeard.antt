@@ -6,7 +6,7 @@ use Rattle.mt_base.specs.declared.kinds.Role.{Role}
 use Rattle.mt_base.specs.declared.kinds.Role.TheVariants.{Server, Client}
 use Rattle.mt_base.specs.Trace.{Trace, ◌▷◌}
 use Rattle.dvc_pdus.specs.declared.pdu.DvcRefusal.{DvcRefusal}
-use Rattle.dvc_pdus.specs.Value.{Pdu, Caps, CreateRequest, CreateResponse, DataFirst, Data, CompressedFirst, Compressed, Close, SyncRequest, SyncResponse}
+use Rattle.dvc_pdus.specs.Value.{ChannelList, Pdu, Caps, CreateRequest, CreateResponse, DataFirst, Data, CompressedFirst, Compressed, Close, SyncRequest, SyncResponse}
 use Rattle.soft_sync.specs.Exchanges.{Exchange, Request, behind, channels_at, exchanges, has}
 use Rattle.soft_sync.specs.Words as words
 use Rattle.soft_sync.specs.Words.{Words}
@@ -17,6 +17,7 @@ use Rattle.mt_endpoint.specs.Faults.{Why, main_fault}
 use Rattle.mt_endpoint.specs.Growing.{among, answer_all, answered, freed, grown, oldest_among, release_all}
 use Rattle.mt_endpoint.specs.Holding.{is_through}
 use Rattle.mt_endpoint.specs.Moving.{all_told, answer_made, answer_read, answer_to, inward, kinds_of, made, made_by, may_answer, read, read_by, unanswered_in}
+use Rattle.mt_endpoint.specs.Writing.{adds}
 use Rattle.mt_endpoint.proofs.Freed.{IsRead, each_freed, inward_same}
 use Rattle.mt_endpoint.proofs.Ready.{EachIn}
 use Rattle.end_calls.specs.declared.fault.Fault.{Fault}
@@ -37,7 +38,7 @@ use Rattle.end_session.specs.Hearing.{IsHeard, IsUnread, MayLack, pdu_in, unread
 use Rattle.end_session.specs.Outgoing.{waiting_for}
 use Rattle.end_session.specs.Standing.{Gone, Stands}
 use Rattle.end_session.specs.Store.{Store}
-use Rattle.end_session.proofs.Added.{answered_front, answers_front}
+use Rattle.end_session.proofs.Added.{heard_quiet, answered_front, answers_front}
 use Rattle.end_session.proofs.AnswersMade.{none_behind, oldest, at_least}
 use Rattle.end_session.proofs.DataHeard.{inward_is}
 use Rattle.end_session.proofs.FewListed.{few_at}
@@ -47,7 +48,7 @@ use Rattle.end_session.proofs.MovesHeard.{as_many_read, few_channels, may_hear}
 
 -- ---- a broken end stands for the same acts
 
-broken_stands : (s : Store) (t : Trace Act) (gone : Gone) (b : Option Fault) → Stands s t gone → Stands (record s { broken = b }) t gone
+pub broken_stands : (s : Store) (t : Trace Act) (gone : Gone) (b : Option Fault) → Stands s t gone → Stands (record s { broken = b }) t gone
 broken_stands s t gone b st =
     let k = st.knows in record {
       knows = record {
@@ -285,7 +286,7 @@ pub record HasRead (s first now : Store) (r : Result Heard DvcRefusal) : Type 0 
   pub role_is : first.role ≡ s.role
   pub answered_all : (t : Trace Act) (gone : Gone) → Stands first t gone → Stands now (answered first.role t) gone
 
-owed_more : (s first : Store) (r : Result Heard DvcRefusal) (t : Trace Act) (gone : Gone) → Stands s t gone → IsHeard s.role r t gone first → first.owed ≤ s.owed + 1
+pub owed_more : (s first : Store) (r : Result Heard DvcRefusal) (t : Trace Act) (gone : Gone) → Stands s t gone → IsHeard s.role r t gone first → first.owed ≤ s.owed + 1
 owed_more s first (Ok heard) t gone st h = owed_then s first t heard gone st h.1
 owed_more s first (Err refusal) t gone st h = absurd h
 
@@ -381,8 +382,35 @@ part_came s now after last r pdu request n t gone untaken f same d ended f_is la
 
 -- ---- what waits
 
-pub reliable_bound : (s first now after : Store) (r : Result Heard DvcRefusal) (pdu : Pdu) (request : Option ℕ) (t : Trace Act) (gone : Gone) → IsDue s now r pdu request t gone → waiting_for Reliable s.outgoing ≡ []
+-- a frame that frees channels is no close, and writes nothing itself
+moves_write : (role : Role) (t : Trace Act) (flags : ℕ) (tunnels : ℕ) (lists : List ChannelList) → adds role t (Hears (Spoken (SyncRequest flags tunnels lists))) ≡ []
+moves_write Server t flags tunnels lists = refl
+moves_write Client t flags tunnels lists = refl
+
+moved_writes : (role : Role) (t : Trace Act) (types : List Kind) → adds role t (Hears (Spoken (SyncResponse types))) ≡ []
+moved_writes Server t types = refl
+moved_writes Client t types = refl
+
+closes_alone : (s first : Store) (pdu : Pdu) (request : Option ℕ) (xs : List Exchange) (t : Trace Act) (gone : Gone) → first.role ≡ s.role → Stands s t gone → Stands first (t ▷ Hears (Spoken pdu)) gone
+    → length (waiting_for Reliable first.outgoing) ≤ length (waiting_for Reliable s.outgoing) + 9 → length (freed_by pdu request xs) ≤ 256
+    → length (waiting_for Reliable first.outgoing) + 9 * length (freed_by pdu request xs) ≤ length (waiting_for Reliable s.outgoing) + 2304
+closes_alone s first (SyncRequest flags tunnels lists) request xs t gone same before after written few =
+    omega (arith, few, heard_quiet s first t (Spoken (SyncRequest flags tunnels lists)) gone same (moves_write s.role t flags tunnels lists) before after)
+closes_alone s first (SyncResponse types) request xs t gone same before after written few =
+    omega (arith, few, heard_quiet s first t (Spoken (SyncResponse types)) gone same (moved_writes s.role t types) before after)
+closes_alone s first (Caps version charges) request xs t gone same before after written few = omega (arith, written)
+closes_alone s first (CreateRequest id priority name) request xs t gone same before after written few = omega (arith, written)
+closes_alone s first (CreateResponse id status) request xs t gone same before after written few = omega (arith, written)
+closes_alone s first (DataFirst id total bytes) request xs t gone same before after written few = omega (arith, written)
+closes_alone s first (Data id bytes) request xs t gone same before after written few = omega (arith, written)
+closes_alone s first (CompressedFirst id total bytes) request xs t gone same before after written few = omega (arith, written)
+closes_alone s first (Compressed id bytes) request xs t gone same before after written few = omega (arith, written)
+closes_alone s first (Close id) request xs t gone same before after written few = omega (arith, written)
+
+pub reliable_bound : (s first now after : Store) (r : Result Heard DvcRefusal) (pdu : Pdu) (request : Option ℕ) (t : Trace Act) (gone : Gone) → HasRead s first now r → Stands s t gone → IsDue s now r pdu request t gone → waiting_for Reliable s.outgoing ≡ []
     → length (waiting_for Reliable first.outgoing) ≤ length (waiting_for Reliable s.outgoing) + 9 → ((kind : Kind) → waiting_for kind now.outgoing ≡ waiting_for kind first.outgoing)
-    → length (waiting_for Reliable after.outgoing) ≤ length (waiting_for Reliable now.outgoing) + 9 * length (freed_by pdu request (now.paths).made) → length (waiting_for Reliable after.outgoing) ≤ 2313
-reliable_bound s first now after r pdu request t gone d empty written same more =
-    omega (arith, ap (λ (x : List ℕ). length x) empty, written, ap (λ (x : List ℕ). length x) (same Reliable), more, d.few)
+    → length (waiting_for Reliable after.outgoing) ≤ length (waiting_for Reliable now.outgoing) + 9 * length (freed_by pdu request (now.paths).made) → length (waiting_for Reliable after.outgoing) ≤ 2304
+reliable_bound s first now after r pdu request t gone w st d empty written same more =
+    let heard : IsHeard s.role (Ok (Spoken pdu)) t gone first = subst (λ r. IsHeard s.role r t gone first) d.says (w.heard t gone st) in
+    let all = closes_alone s first pdu request (now.paths).made t gone w.role_is st heard.1 written d.few in
+    omega (arith, ap (λ (x : List ℕ). length x) empty, ap (λ (x : List ℕ). length x) (same Reliable), more, all)

@@ -1,5 +1,5 @@
 -- A channel PDU that is pulled behind the word of its channel (MS-RDPEDYC section 3.1.5.3).
-use Rattle.std.specs.Prelude.{◌≡◌, ℕ, true, List, Some, None, Ok}
+use Rattle.std.specs.Prelude.{◌≡◌, ℕ, true, false, List, Some, None, Ok}
 use Rattle.mt_base.specs.Ends.{other}
 use Rattle.mt_base.specs.Trace.{Trace}
 use Rattle.mt_base.specs.declared.kinds.Kind.{Kind}
@@ -20,6 +20,10 @@ pub record IsBehind (kind : Kind) (pdu : Pdu) (s : Store) : Type 0 where
   pub id : ℕ
   pub channel_is : channel_of pdu ≡ Some id
   pub through : is_through kind (inward id s.paths) ≡ true
+
+-- it is for no such channel
+abbrev pub IsAhead : Kind → Pdu → Store → Type 0
+IsAhead kind pdu s = (id : ℕ) → channel_of pdu ≡ Some id → is_through kind (inward id s.paths) ≡ false
 
 -- nothing of its channel is held for this tunnel
 abbrev pub NoneHeld : Kind → Pdu → Store → Type 0

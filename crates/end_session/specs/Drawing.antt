@@ -1,17 +1,13 @@
 -- What is pulled from the links of an end.
-use Rattle.std.specs.Prelude.{◌≡◌, ℕ, ◌+◌, ◌≤◌, true, List, [], ◌∷◌, Option, Some, None}
+use Rattle.std.specs.Prelude.{ℕ, ◌+◌, ◌≤◌, List, Option, Some, None}
 use Rattle.mt_base.specs.declared.kinds.Kind.{Kind}
 use Rattle.mt_base.specs.declared.kinds.Kind.TheVariants.{Reliable, Lossy}
 use Rattle.mt_base.specs.declared.kinds.Role.{Role}
 use Rattle.mt_base.specs.declared.kinds.Role.TheVariants.{Server, Client}
 use Rattle.mt_base.specs.Trace.{Trace}
-use Rattle.dvc_pdus.specs.Value.{Pdu}
 use Rattle.hold_queue.specs.Held as hold
-use Rattle.soft_sync.specs.Words.{Words, inward}
 use Rattle.mt_endpoint.specs.Acts.{Act, Drawn, TunnelAnswered}
 use Rattle.mt_endpoint.specs.Faults.{Why, tunnel_fault}
-use Rattle.mt_endpoint.specs.Holding.{is_through}
-use Rattle.mt_endpoint.specs.Said.{lone}
 use Rattle.mt_endpoint.specs.Tunnels.{Request}
 use Rattle.end_session.specs.Outgoing.{Outgoing, says}
 use Rattle.end_session.specs.Store.{Store}
@@ -41,14 +37,3 @@ held_of Lossy s = s.held_lossy
 -- so many bytes are held beside the others
 abbrev pub IsHeldBeside : ℕ → List hold.Pdu → Type 0
 IsHeldBeside size pdus = 16 + size + hold.weight pdus ≤ 1048576
-
--- data of the channel, where its word is read, are held whatever is held before
-abbrev pub HasRoomBehind : ℕ → List ℕ → Words → List hold.Pdu → Type 0
-HasRoomBehind size [] words pdus = Unit {0}
-HasRoomBehind size (id ∷ ids) words pdus = is_through Lossy (inward id words) ≡ true → IsHeldBeside size pdus
-
--- There is room for a PDU that is held in any case. Of the reliable tunnel each PDU of an open channel is:
--- its link is read only where there is room for the longest.
-abbrev pub HasRoom : Kind → ℕ → Pdu → Store → Type 0
-HasRoom Reliable size pdu s = IsHeldBeside 1600 s.held_reliable
-HasRoom Lossy size pdu s = HasRoomBehind size (lone pdu) s.paths s.held_lossy

@@ -15,6 +15,7 @@ pub mod Listing
 pub mod MessageGiven
 pub mod OfKind
 pub mod Outgoing
+pub mod Pulling
 pub mod Refusals
 pub mod Releasing
 pub mod Standing

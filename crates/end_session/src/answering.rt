@@ -70,6 +70,7 @@ impl Session {
         ensures due { (t : Trace Act) (gone : Gone) → Stands self.old t gone → result ≡ is_some (due t) }
         ensures owed { result ≡ true → (self.new).owed + 1 ≡ (self.old).owed }
         ensures written { length ((self.new).outgoing).main ≤ length ((self.old).outgoing).main + 17 }
+        ensures settled { length ((self.new).outgoing).main + 17 * (self.new).owed ≤ length ((self.old).outgoing).main + 17 * (self.old).owed }
         ensures same { ((self.new).role ≡ (self.old).role) × ((self.new).broken ≡ (self.old).broken) }
     {
         let Some(due) = self.answer_due() else {
@@ -89,6 +90,7 @@ impl Session {
         requires whole { (self.old).broken ≡ None }
         requires room { length ((self.old).outgoing).main + 17 * (self.old).owed ≤ MAIN_QUEUE }
         ensures answered { (t : Trace Act) (gone : Gone) → Stands self.old t gone → Stands self.new (answered Client t) gone }
+        ensures settled { length ((self.new).outgoing).main + 17 * (self.new).owed ≤ length ((self.old).outgoing).main + 17 * (self.old).owed }
         ensures same { ((self.new).role ≡ (self.old).role) × ((self.new).broken ≡ (self.old).broken) }
     {
         for _turn in 0..self.owed {

@@ -51,14 +51,15 @@ fn take_answer(role: Role, kind: Kind, hr: u32, tunnel: &mut Tunnel, paths: &mut
 }
 
 impl Session {
-    ghost use Rattle.std.specs.Prelude.{◌≡◌, ℕ, List, None, OnOk, IfErr, OnErr};
+    ghost use Rattle.std.specs.Prelude.{◌≡◌, ℕ, ◌+◌, ◌≤◌, true, List, length, None, is_some, OnOk, IfErr, OnErr};
     ghost use Rattle.mt_base.specs.declared.kinds.Kind.{Kind};
     ghost use Rattle.mt_base.specs.declared.kinds.Role.TheVariants.{Client};
     ghost use Rattle.mt_base.specs.Trace.{Trace, ◌▷◌};
     ghost use Rattle.mt_endpoint.specs.Acts.{Act, Draws, Misses, CreateAsked, CreateAnswered, Nothing};
     ghost use Rattle.mt_endpoint.specs.Faults.{Unexpected, when};
-    ghost use Rattle.end_session.specs.Causes.{IsCause};
+    ghost use Rattle.end_session.specs.Causes.{IsCause, why_of};
     ghost use Rattle.end_session.specs.Drawing.{drawn_fault};
+    ghost use Rattle.end_session.specs.Outgoing.{waiting_for};
     ghost use Rattle.end_session.specs.Standing.{Gone, Stands};
 
     /// Data without a byte were pulled from a link, of either kind and at any place: the end stays as it
@@ -75,10 +76,11 @@ impl Session {
 
     /// A client pulled a create request, which only a server is sent (MS-RDPEMT section 2.2.2.1): a fault
     /// on the reliable link; on the lossy one the end stays as it was, and stands for the act `Draws` more.
-    pub fn draw_create_request(&self, kind: Kind) -> Result<(), Cause>
+    pub(crate) fn draw_create_request(&self, kind: Kind) -> Result<(), Cause>
         requires { (self.now).role ≡ Client }
         ensures heard { (t : Trace Act) (gone : Gone) (at id : ℕ) (cookie : List ℕ) → Stands self.now t gone → OnOk result ((drawn_fault (self.now).role kind t (CreateAsked id cookie) ≡ None) × Stands self.now (t ▷ Draws kind at (CreateAsked id cookie)) gone) }
         ensures refused { (t : Trace Act) (gone : Gone) (id : ℕ) (cookie : List ℕ) → Stands self.now t gone → IfErr result (λ cause. IsCause (drawn_fault (self.now).role kind t (CreateAsked id cookie)) cause) }
+        ensures told { IfErr result (λ cause. is_some (why_of cause) ≡ true) }
     {
         match kind {
             Kind::Reliable => Err(Cause::Unexpected),
@@ -89,11 +91,15 @@ impl Session {
     /// An answer to a create request was pulled (MS-RDPEMT section 2.2.2.2): the act `Draws`. At a client
     /// the first one opens the tunnel or refuses it, and is told to the server. At a server, and where it
     /// is a second one, it is a fault on the reliable link, and has no effect on the lossy one.
-    pub fn draw_create_answer(&mut self, kind: Kind, hr: u32) -> Result<(), Cause>
+    pub(crate) fn draw_create_answer(&mut self, kind: Kind, hr: u32) -> Result<(), Cause>
         requires room { length ((self.old).outgoing).main + 2304 ≤ MAIN_QUEUE }
         ensures heard { (t : Trace Act) (gone : Gone) (at : ℕ) → Stands self.old t gone → OnOk result ((drawn_fault (self.old).role kind t (CreateAnswered hr) ≡ None) × Stands self.new (t ▷ Draws kind at (CreateAnswered hr)) gone) }
         ensures refused { (t : Trace Act) (gone : Gone) → Stands self.old t gone → IfErr result (λ cause. IsCause (drawn_fault (self.old).role kind t (CreateAnswered hr)) cause) }
+        ensures told { IfErr result (λ cause. is_some (why_of cause) ≡ true) }
+        ensures written { length ((self.new).outgoing).main ≤ length ((self.old).outgoing).main + 11 }
+        ensures links { (made : Kind) → waiting_for made (self.new).outgoing ≡ waiting_for made (self.old).outgoing }
         ensures unchanged { OnErr result (self.new ≡ self.old) }
+        ensures owed { (self.new).owed ≡ (self.old).owed }
         ensures same { ((self.new).role ≡ (self.old).role) × ((self.new).broken ≡ (self.old).broken) }
     {
         if self.is_answer_unexpected(kind) {

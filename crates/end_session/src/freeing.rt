@@ -34,6 +34,7 @@ impl Session {
         ensures came { (t : Trace Act) (gone : Gone) → Stands self.old t gone → OnOk result (Came (release_all (self.old).role (freed_by (pdu_of pdu.now) request ((self.old).paths).made) t) gone self.new) }
         ensures ended { (t : Trace Act) (gone : Gone) → Stands self.old t gone → IfErr result (λ untaken. Ended t (release_all (self.old).role (freed_by (pdu_of pdu.now) request ((self.old).paths).made) t) gone self.new untaken) }
         ensures written { WroteCloses (length (freed_by (pdu_of pdu.now) request ((self.old).paths).made)) (self.old).outgoing (self.new).outgoing }
+        ensures owed { (self.new).owed ≡ (self.old).owed }
         ensures same { ((self.new).role ≡ (self.old).role) × ((self.new).broken ≡ (self.old).broken) }
     {
         match *pdu {
@@ -55,6 +56,7 @@ impl Session {
         ensures came { (t : Trace Act) (gone : Gone) → Stands self.old t gone → OnOk result (Came (release_all (self.old).role (channels_listed (lists_left lists.entry)) t) gone self.new) }
         ensures ended { (t : Trace Act) (gone : Gone) → Stands self.old t gone → IfErr result (λ untaken. Ended t (release_all (self.old).role (channels_listed (lists_left lists.entry)) t) gone self.new untaken) }
         ensures written { WroteCloses (length (channels_listed (lists_left lists.entry))) (self.old).outgoing (self.new).outgoing }
+        ensures owed { (self.new).owed ≡ (self.old).owed }
         ensures same { ((self.new).role ≡ (self.old).role) × ((self.new).broken ≡ (self.old).broken) }
     {
         for (id, kind) in Listed::of(lists) {
@@ -74,6 +76,7 @@ impl Session {
         ensures came { (t : Trace Act) (gone : Gone) → Stands self.old t gone → OnOk result (Came (release_all (self.old).role (among kinds (channels_at request ((self.old).paths).made)) t) gone self.new) }
         ensures ended { (t : Trace Act) (gone : Gone) → Stands self.old t gone → IfErr result (λ untaken. Ended t (release_all (self.old).role (among kinds (channels_at request ((self.old).paths).made)) t) gone self.new untaken) }
         ensures written { WroteCloses (length (among kinds (channels_at request ((self.old).paths).made))) (self.old).outgoing (self.new).outgoing }
+        ensures owed { (self.new).owed ≡ (self.old).owed }
         ensures same { ((self.new).role ≡ (self.old).role) × ((self.new).broken ≡ (self.old).broken) }
     {
         // What the end stands for is known from here on.

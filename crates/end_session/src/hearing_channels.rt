@@ -14,8 +14,8 @@ use dvc_channels::{ChannelRefusal, ChannelState};
 use dvc_pdus::DvcPdu;
 use mt_base::Role;
 
-/// E_ACCESSDENIED (MS-ERREF section 2.1.1), by which a channel that is one too many is refused.
-const DENIED: u32 = 0x8007_0005;
+/// E_ACCESSDENIED (MS-ERREF section 2.1.1), by which a tunnel is refused, and a channel that is one too many.
+pub(crate) const DENIED: u32 = 0x8007_0005;
 
 /// Bit 31 of a status: the client refused.
 const REFUSED: u32 = 0x8000_0000;

@@ -9,6 +9,7 @@ ghost use Rattle.mt_endpoint.specs.Writing.{create_code, is_full_for};
 ghost use Rattle.end_session.specs.Known.{is_live_in};
 ghost use Rattle.end_session.specs.Outgoing.{carries, waiting_for};
 
+use crate::hearing_channels::DENIED;
 use crate::outgoing::Outgoing;
 use crate::session::Session;
 use crate::tunnel::Tunnel;
@@ -16,9 +17,6 @@ use mt_base::{Kind, Role};
 use soft_sync::Paths;
 use tunnel_cookies::Verdict;
 use tunnel_pdus::TunnelPdu;
-
-/// E_ACCESSDENIED (MS-ERREF section 2.1.1), by which a tunnel is refused.
-const DENIED: u32 = 0x8007_0005;
 
 /// The number of a link in the table of issued requests.
 fn link_of(kind: Kind) -> u32
@@ -96,16 +94,20 @@ impl Session {
     ghost use Rattle.mt_endpoint.specs.Acts.{Act, Judges};
     ghost use Rattle.end_calls.specs.Streams.{verdict_by};
     ghost use Rattle.end_session.specs.OfKind.{tunnel_of};
+    ghost use Rattle.end_session.specs.Pulling.{WroteFor};
     ghost use Rattle.end_session.specs.Standing.{Gone, Stands};
 
     /// A server pulled a create request, and judges it by the requests that it issued (MS-RDPEMT section
     /// 3.2.5.1): the act `Judges`. The tunnel opens where the verdict is so. The answer is written for the
     /// link, unless that is silent, or is a lossy one that is full.
-    pub fn judge(&mut self, kind: Kind, id: u32, cookie: &[u8], is_full: bool) -> Verdict
+    pub(crate) fn judge(&mut self, kind: Kind, id: u32, cookie: &[u8], is_full: bool) -> Verdict
         requires server { (self.old).role ≡ Server }
         requires waits { waiting_for kind (self.old).outgoing ≡ [] }
         ensures stands { (t : Trace Act) (gone : Gone) (at : ℕ) → Stands self.old t gone → Stands self.new (t ▷ Judges kind at id cookie.now result is_full) gone }
         ensures verdict { result ≡ verdict_by kind cookie.now (entry_of id (self.old).issued) }
+        ensures wrote { WroteFor kind (self.old).outgoing (self.new).outgoing }
+        ensures main { ((self.new).outgoing).main ≡ ((self.old).outgoing).main }
+        ensures owed { (self.new).owed ≡ (self.old).owed }
         ensures same { ((self.new).role ≡ (self.old).role) × ((self.new).broken ≡ (self.old).broken) }
     {
         let gets_none = self.gets_no_answer(kind, is_full);

@@ -54,7 +54,7 @@ impl Session {
     /// which isn't closed (MS-RDPEDYC sections 2.2.4 and 3.1.5.3): the act `Releases`. The channel is
     /// closed, what is held of it is dropped, and it is answered by a close: on the main stream, or through
     /// the reliable tunnel where this end's data go that way. Takes no memory.
-    pub fn release_close(&mut self, id: u32)
+    pub(crate) fn release_close(&mut self, id: u32)
         requires fresh { (t : Trace Act) (gone : Gone) → Stands self.old t gone → is_closed (self.old).role id t ≡ false }
         requires oldest { (kind : Kind) × (is_through kind (inward id (self.old).paths) ≡ true) × IsOldest kind id (Close id) self.old }
         requires room { length ((self.old).outgoing).main + 8 ≤ MAIN_QUEUE }
@@ -63,6 +63,7 @@ impl Session {
         ensures written { (length ((self.new).outgoing).main ≤ length ((self.old).outgoing).main + 8) × (length (waiting_for Reliable (self.new).outgoing) ≤ length (waiting_for Reliable (self.old).outgoing) + 9) }
         ensures lossy { waiting_for Lossy (self.new).outgoing ≡ waiting_for Lossy (self.old).outgoing }
         ensures paths { (made : ℕ) → inward made (self.new).paths ≡ inward made (self.old).paths }
+        ensures owed { (self.new).owed ≡ (self.old).owed }
         ensures same { ((self.new).role ≡ (self.old).role) × ((self.new).broken ≡ (self.old).broken) }
     {
         let path = self.paths.outward(id);
@@ -90,6 +91,7 @@ impl Session {
         ensures written { (length ((self.new).outgoing).main ≤ length ((self.old).outgoing).main + 8) × (length (waiting_for Reliable (self.new).outgoing) ≤ length (waiting_for Reliable (self.old).outgoing) + 9) }
         ensures lossy { waiting_for Lossy (self.new).outgoing ≡ waiting_for Lossy (self.old).outgoing }
         ensures paths { (made : ℕ) → inward made (self.new).paths ≡ inward made (self.old).paths }
+        ensures owed { (self.new).owed ≡ (self.old).owed }
         ensures same { ((self.new).role ≡ (self.old).role) × ((self.new).broken ≡ (self.old).broken) }
     {
         while self.release_one(kind, id)? {}
@@ -109,6 +111,7 @@ impl Session {
         ensures written { (length ((self.new).outgoing).main ≤ length ((self.old).outgoing).main + 8) × (length (waiting_for Reliable (self.new).outgoing) ≤ length (waiting_for Reliable (self.old).outgoing) + 9) }
         ensures lossy { waiting_for Lossy (self.new).outgoing ≡ waiting_for Lossy (self.old).outgoing }
         ensures paths { (made : ℕ) → inward made (self.new).paths ≡ inward made (self.old).paths }
+        ensures owed { (self.new).owed ≡ (self.old).owed }
         ensures same { ((self.new).role ≡ (self.old).role) × ((self.new).broken ≡ (self.old).broken) }
     {
         if is_closed(self.channels.state(id)) {

@@ -1,6 +1,7 @@
-//! One end of a session without its links, as far as it is built: the steps of its own, what it reads, PDU
-//! by PDU, and what a whole frame of the main stream makes of it ([`Session::hear`]). What does the same for
-//! tunnels, and gives an end its links, is still to come (docs/ENDPOINT.md).
+//! One end of a session without its links, as far as it is built: the steps of its own, and what it makes of
+//! what it reads: a whole frame of the main stream ([`Session::hear`]), a whole tunnel PDU of the reliable link
+//! ([`Session::draw`]) and a part of the lossy one ([`Session::draw_part`]). What reads the streams, and gives an
+//! end its links, is still to come (docs/ENDPOINT.md).
 //!
 //! Below it stand `end_calls` and `mt_endpoint`, whose definitions it follows. A [`Session`] stands for the
 //! acts so far (`specs/Standing.antt`): its channels, words, issued requests, tunnels and held PDUs are what
@@ -13,11 +14,13 @@
 mod answering;
 mod asking;
 mod attaching;
+mod breaking;
 mod by_kind;
 mod cause;
 mod closes;
 mod closing;
 mod drawing;
+mod drawing_whole;
 mod freeing;
 mod giving;
 mod handing;
@@ -28,6 +31,7 @@ mod hearing_moves;
 mod hearing_sync;
 mod hearing_tunnels;
 mod hearing_whole;
+mod held_room;
 mod judging;
 mod keeping;
 mod laws;
@@ -38,6 +42,7 @@ mod opening;
 mod outgoing;
 mod outlet;
 mod passing;
+mod pulling;
 mod queue;
 mod reading;
 mod refusing;
@@ -47,6 +52,7 @@ mod sending;
 mod session;
 mod silencing;
 mod spelled;
+mod stopping;
 mod stream;
 mod taking;
 mod tunnel;

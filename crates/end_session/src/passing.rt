@@ -31,6 +31,7 @@ impl Session {
     ghost use Rattle.end_session.specs.Coming.{Came, Ended};
     ghost use Rattle.end_session.specs.Drawing.{IsHeldBeside, drawn_fault};
     ghost use Rattle.end_session.specs.Outgoing.{waiting_for};
+    ghost use Rattle.end_session.specs.Pulling.{WroteFor};
     ghost use Rattle.end_session.specs.Releasing.{is_end};
     ghost use Rattle.end_session.specs.Standing.{Gone, Stands};
 
@@ -40,7 +41,7 @@ impl Session {
     /// channel doesn't take. A close is answered by a close. The error is a PDU of the reliable tunnel that the
     /// channel doesn't take, which is held then; or there was no memory, and nothing changes. What is released
     /// needs no room among what is held.
-    pub fn draw_behind(
+    pub(crate) fn draw_behind(
         &mut self,
         kind: Kind,
         at: u64,
@@ -55,9 +56,12 @@ impl Session {
         requires allowed { (t : Trace Act) (gone : Gone) → Stands self.old t gone → drawn_fault (self.old).role kind t (Carried bytes.now (pdu_of pdu.now)) ≡ None }
         requires held { kind ≡ Reliable → IsHeldBeside 1600 (self.old).held_reliable }
         requires room { length ((self.old).outgoing).main + 8 ≤ MAIN_QUEUE }
-        requires waits { length (waiting_for Reliable (self.old).outgoing) + 9 ≤ 3072 }
+        requires waits { kind ≡ Reliable → length (waiting_for Reliable (self.old).outgoing) + 9 ≤ 3072 }
         ensures came { (t : Trace Act) (gone : Gone) (place : ℕ) → at ≡ told_place place → Stands self.old t gone → OnOk result (Came (grown (self.old).role t (Draws kind place (Carried bytes.now (pdu_of pdu.now)))) gone self.new) }
         ensures ended { (t : Trace Act) (gone : Gone) (place : ℕ) → at ≡ told_place place → Stands self.old t gone → IfErr result (λ untaken. Ended t (grown (self.old).role t (Draws kind place (Carried bytes.now (pdu_of pdu.now)))) gone self.new untaken) }
+        ensures wrote { WroteFor kind (self.old).outgoing (self.new).outgoing }
+        ensures written { length ((self.new).outgoing).main ≤ length ((self.old).outgoing).main + 8 }
+        ensures owed { (self.new).owed ≡ (self.old).owed }
         ensures same { ((self.new).role ≡ (self.old).role) × ((self.new).broken ≡ (self.old).broken) }
     {
         let Some(id) = self.open_for(kind, pdu) else {
@@ -101,6 +105,8 @@ impl Session {
         requires held { kind ≡ Reliable → IsHeldBeside 1600 (self.old).held_reliable }
         ensures came { (t : Trace Act) (gone : Gone) (place : ℕ) → at ≡ told_place place → Stands self.old t gone → OnOk result (Came (grown (self.old).role t (Draws kind place (Carried bytes.now (pdu_of pdu.now)))) gone self.new) }
         ensures ended { (t : Trace Act) (gone : Gone) (place : ℕ) → at ≡ told_place place → Stands self.old t gone → IfErr result (λ untaken. Ended t (grown (self.old).role t (Draws kind place (Carried bytes.now (pdu_of pdu.now)))) gone self.new untaken) }
+        ensures quiet { (self.new).outgoing ≡ (self.old).outgoing }
+        ensures owed { (self.new).owed ≡ (self.old).owed }
         ensures same { ((self.new).role ≡ (self.old).role) × ((self.new).broken ≡ (self.old).broken) }
     {
         let Err(why) = self.channels.accept(id, pdu) else {
@@ -127,6 +133,9 @@ impl Session {
         requires room { length ((self.old).outgoing).main + 8 ≤ MAIN_QUEUE }
         requires waits { length (waiting_for Reliable (self.old).outgoing) + 9 ≤ 3072 }
         ensures came { (bytes : List ℕ) (t : Trace Act) (gone : Gone) (place : ℕ) → IsPassing Reliable bytes (Close id) self.old → Stands self.old t gone → Came (grown (self.old).role t (Draws Reliable place (Carried bytes (Close id)))) gone self.new }
+        ensures wrote { WroteFor Reliable (self.old).outgoing (self.new).outgoing }
+        ensures written { length ((self.new).outgoing).main ≤ length ((self.old).outgoing).main + 8 }
+        ensures owed { (self.new).owed ≡ (self.old).owed }
         ensures same { ((self.new).role ≡ (self.old).role) × ((self.new).broken ≡ (self.old).broken) }
     {
         let path = self.paths.outward(id);

@@ -81,7 +81,12 @@ impl Session {
     /// isn't closed (MS-RDPEDYC section 3.1.5.3): the act `Releases`. True where the channel takes them.
     /// Where it doesn't, they are dropped, and false is given, if the lossy tunnel brought them: the act
     /// `Discards`. The reliable tunnel brought a fault then, and nothing changes.
-    pub fn release_data(&mut self, kind: Kind, id: u32, pdu: &DvcPdu<'_>) -> Result<bool, Cause>
+    pub(crate) fn release_data(
+        &mut self,
+        kind: Kind,
+        id: u32,
+        pdu: &DvcPdu<'_>,
+    ) -> Result<bool, Cause>
         requires word { is_through kind (inward id (self.old).paths) ≡ true }
         requires fresh { (t : Trace Act) (gone : Gone) → Stands self.old t gone → is_closed (self.old).role id t ≡ false }
         requires oldest { IsOldest kind id (pdu_of pdu.now) self.old }
@@ -93,6 +98,7 @@ impl Session {
         ensures held { IfOk result (λ is_taken. held_of kind self.new ≡ hold.without_oldest id (held_of kind self.old)) }
         ensures unchanged { OnErr result (self.new ≡ self.old) }
         ensures quiet { ((self.new).outgoing ≡ (self.old).outgoing) × ((self.new).paths ≡ (self.old).paths) }
+        ensures owed { (self.new).owed ≡ (self.old).owed }
         ensures same { ((self.new).role ≡ (self.old).role) × ((self.new).broken ≡ (self.old).broken) }
     {
         if let Err(why) = self.channels.accept(id, pdu) {

@@ -21,6 +21,7 @@ loop-turn-preserved c =
       whole = c.answer_sync.ensures.same.1 ∙ before.whole;
       counted = omega (arith, less, before.counted);
       room = omega (arith, less, before.room, c.answer_sync.ensures.written);
+      settled = omega (arith, before.settled, c.answer_sync.ensures.settled);
       stands = λ t gone st.
           let v = before.stands t gone st in
           (with_due (due v.0) v.0, c.answer_sync.ensures.answered v.0 gone v.1, others v.0 (due v.0) refl ∙ v.2);

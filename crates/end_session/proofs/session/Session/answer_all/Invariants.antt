@@ -14,5 +14,6 @@ invariant-loop-turn l = record {
   whole : l.self.broken ≡ None;
   counted : l.self.owed + l._turn ≡ l.initial.self.owed;
   room : length (l.self.outgoing).main + 17 * l.self.owed ≤ MAIN_QUEUE;
+  settled : length (l.self.outgoing).main + 17 * l.self.owed ≤ length (l.initial.self.outgoing).main + 17 * l.initial.self.owed;
   stands : (t : Trace Act) (gone : Gone) → Stands l.initial.self t gone → (u : Trace Act) × Stands l.self u gone × (answered Client u ≡ answered Client t);
 }

@@ -81,3 +81,20 @@ returns-clause-written c =
       answer_short c.in-Some.due.1,
       ap (λ (s : Store). length (s.outgoing).main) c.self.view_is,
     )
+
+pub returns-clause-settled : goal.returns-clause-settled
+returns-clause-settled c =
+    let w = c.self.invariant in
+    let s = c.args.self.now in
+    let st = subst (λ s. Stands s w.0.0 w.0.1) c.self.view_is w.0.2 in
+    omega (
+      arith,
+      ap (λ (o : Outgoing). length o.main) c.say.ensures,
+      length-append (c.self.inside.outgoing).main (joined (frame_fields (Channel c.bytes.result.now))),
+      frame_size_is c.bytes.result.now,
+      ap (λ (b : List ℕ). length b) (c.bytes.ensures.bytes ∙ c.of_sync_response-pdu.ensures),
+      answer_short c.in-Some.due.1,
+      ap (λ (s : Store). length (s.outgoing).main) c.self.view_is,
+      some_owed s w.0.0 w.0.1 c.in-Some.due.1 c.requires.client st (due_one c w.0.0 w.0.1 st),
+      ap (λ (s : Store). s.owed) c.self.view_is,
+    )

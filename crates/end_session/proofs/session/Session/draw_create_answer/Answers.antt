@@ -1,9 +1,12 @@
-use Rattle.std.proofs.Common.{ℕ, sym, subst}
+use Rattle.std.proofs.Common.{ℕ, ◌+◌, ◌≤◌, length, sym, ap, subst, ◌∙◌}
 use Rattle.mt_base.specs.Trace.{Trace, ◌▷◌}
 use Rattle.mt_endpoint.specs.Acts.{Act, Draws, CreateAnswered}
+use Rattle.end_session.specs.Outgoing.{waiting_for}
 use Rattle.end_session.specs.Standing.{Gone, Stands}
+use Rattle.end_session.specs.Store.{Store}
 use Rattle.end_session.specs.contracts.session.Session.{the_view}
 use Rattle.end_session.proofs.Drawn.{answered_lossy, answered_reliable, comes, fine_inside}
+use Rattle.end_session.proofs.Wrote.{first_for, first_short}
 use Rattle.end_session.proofs.session.Session.draw_create_answer.Goals as goal
 
 -- the end that it leaves, which stands for one act more
@@ -38,3 +41,23 @@ pub invariant_of-self-in-Lossy : goal.invariant_of-self-in-Lossy
 invariant_of-self-in-Lossy c =
     let w = c.self.invariant in
     ((w.0.0 ▷ Draws c.args.kind 0 (CreateAnswered c.args.hr), w.0.1, by_lossy c w.0.0 w.0.1 0 (subst (λ s. Stands s w.0.0 w.0.1) c.self.view_is w.0.2)), w.1)
+
+pub returns-in-Reliable-clause-written : goal.returns-in-Reliable-clause-written
+returns-in-Reliable-clause-written c =
+    let s = the_view c.self.inside in
+    subst (λ (x : Store). length (c.tell_first.new.outgoing).main ≤ length (x.outgoing).main + 11) c.self.view_is (first_short s.role (s.reliable).answer (s.reliable).asked c.args.hr s.outgoing c.tell_first.new.outgoing c.tell_first.ensures)
+
+pub returns-in-Reliable-clause-links : goal.returns-in-Reliable-clause-links
+returns-in-Reliable-clause-links c made =
+    let s = the_view c.self.inside in
+    first_for s.role (s.reliable).answer (s.reliable).asked c.args.hr s.outgoing c.tell_first.new.outgoing c.tell_first.ensures made ∙ ap (λ (x : Store). waiting_for made x.outgoing) c.self.view_is
+
+pub returns-in-Lossy-clause-written : goal.returns-in-Lossy-clause-written
+returns-in-Lossy-clause-written c =
+    let s = the_view c.self.inside in
+    subst (λ (x : Store). length (c.tell_first-in-Lossy.new.outgoing).main ≤ length (x.outgoing).main + 11) c.self.view_is (first_short s.role (s.lossy).answer (s.lossy).asked c.args.hr s.outgoing c.tell_first-in-Lossy.new.outgoing c.tell_first-in-Lossy.ensures)
+
+pub returns-in-Lossy-clause-links : goal.returns-in-Lossy-clause-links
+returns-in-Lossy-clause-links c made =
+    let s = the_view c.self.inside in
+    first_for s.role (s.lossy).answer (s.lossy).asked c.args.hr s.outgoing c.tell_first-in-Lossy.new.outgoing c.tell_first-in-Lossy.ensures made ∙ ap (λ (x : Store). waiting_for made x.outgoing) c.self.view_is

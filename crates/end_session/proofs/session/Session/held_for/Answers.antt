@@ -1,6 +1,7 @@
-use Rattle.std.proofs.Common.{ap, ◌∙◌, is_some}
+use Rattle.std.proofs.Common.{ap, ◌∙◌, is_some, arith}
 use Rattle.mt_endpoint.specs.Holding.{held}
-use Rattle.end_session.proofs.Kept.{held_where_open, if_placed, not_lone}
+use Rattle.end_session.specs.contracts.session.Session.{the_view}
+use Rattle.end_session.proofs.Kept.{fits_in, fits_not, held_where_open, if_room, not_lone}
 use Rattle.end_session.proofs.session.Session.held_for.Goals as goal
 
 pub returns-in-Reliable-clause-held : goal.returns-in-Reliable-clause-held
@@ -12,12 +13,12 @@ returns-in_default-clause-held c t gone bytes len st =
     not_lone c.args.self.now.role t c.args.kind bytes _ (held c.args.self.now.role c.args.kind t) c.lone_of.result c.in-Lossy.is c.lone_of.ensures.lone c.lone_of.ensures.other
     (c.if_open-in-Lossy.ensures.open_one t gone st ∙ ap is_some c.in_default.is)
 
-pub returns-then-has_place-clause-held : goal.returns-then-has_place-clause-held
-returns-then-has_place-clause-held c t gone bytes len st =
-    if_placed c.args.self.now t gone c.args.kind c.args.size c.in-Some.id bytes _ c.lone_of.result c.has_place.result c.in-Lossy.is c.in-Some.ensures.found c.lone_of.ensures.lone (c.in-Some.ensures.open_one t gone st) len c.has_place.ensures st
-    ∙ c.if-has_place.true
+pub returns-then-size-room-clause-held : goal.returns-then-size-room-clause-held
+returns-then-size-room-clause-held c t gone bytes len st =
+    if_room c.args.self.now t gone c.args.kind c.args.size c.in-Some.id bytes _ c.lone_of.result c.in-Lossy.is c.in-Some.ensures.found c.lone_of.ensures.lone c.lone_of.ensures.channel (c.in-Some.ensures.open_one t gone st) c.requires.ahead len st
+    ∙ fits_in (the_view c.self.inside) c.args.self.now c.args.size c.room.result c.self.view_is (omega (arith, c.if-size-room.true)) c.room.ensures.within
 
-pub returns-else-has_place-clause-held : goal.returns-else-has_place-clause-held
-returns-else-has_place-clause-held c t gone bytes len st =
-    if_placed c.args.self.now t gone c.args.kind c.args.size c.in-Some.id bytes _ c.lone_of.result c.has_place.result c.in-Lossy.is c.in-Some.ensures.found c.lone_of.ensures.lone (c.in-Some.ensures.open_one t gone st) len c.has_place.ensures st
-    ∙ c.if-has_place.false
+pub returns-else-size-room-clause-held : goal.returns-else-size-room-clause-held
+returns-else-size-room-clause-held c t gone bytes len st =
+    if_room c.args.self.now t gone c.args.kind c.args.size c.in-Some.id bytes _ c.lone_of.result c.in-Lossy.is c.in-Some.ensures.found c.lone_of.ensures.lone c.lone_of.ensures.channel (c.in-Some.ensures.open_one t gone st) c.requires.ahead len st
+    ∙ fits_not (the_view c.self.inside) c.args.self.now c.args.size c.room.result c.self.view_is (omega (arith, c.if-size-room.false)) c.room.ensures.within

@@ -7,7 +7,7 @@ use Rattle.end_session.proofs.LetGo.{ended_on, went_on, went_over}
 use Rattle.end_session.proofs.session.Session.release.Goals as goal
 
 pub loop-init : goal.loop-init
-loop-init c = record { role = refl; whole = refl; quiet = refl; paths = λ made. refl; stands = λ t gone st. (t, whole t, refl, st) }
+loop-init c = record { role = refl; whole = refl; owed = refl; quiet = refl; paths = λ made. refl; stands = λ t gone st. (t, whole t, refl, st) }
 
 pub loop-preserved : goal.loop-preserved
 loop-preserved c =
@@ -15,6 +15,7 @@ loop-preserved c =
     let did = c.in_ok-release_one.ensures in record {
       role = c.release_one.ensures.same.0 ∙ before.role;
       whole = c.release_one.ensures.same.1 ∙ before.whole;
+      owed = c.release_one.ensures.owed ∙ before.owed;
       quiet = did.quiet c.if-branch.true ∙ before.quiet;
       paths = λ made. c.release_one.ensures.paths made ∙ before.paths made;
       stands = λ t gone st.

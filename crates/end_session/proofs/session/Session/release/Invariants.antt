@@ -13,6 +13,7 @@ abbrev pub invariant-loop : goal.invariant-loop
 invariant-loop l = record {
   role : l.self.role ≡ l.initial.self.role;
   whole : l.self.broken ≡ l.initial.self.broken;
+  owed : l.self.owed ≡ l.initial.self.owed;
   quiet : l.self.outgoing ≡ l.initial.self.outgoing;
   paths : (made : ℕ) → inward made l.self.paths ≡ inward made l.initial.self.paths;
   stands : (t : Trace Act) (gone : Gone) → Stands l.initial.self t gone → (u : Trace Act) × IsFront t u × (all_released l.self.role l.kind l.id u ≡ all_released l.initial.self.role l.kind l.id t) × Stands l.self u gone;

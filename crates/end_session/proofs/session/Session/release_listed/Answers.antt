@@ -19,7 +19,7 @@ loop-id-preserved c =
     let all = channels_listed (lists_left c.args.lists) in
     let e = c.release.ensures in
     onward s c.loop-id.self c.release.new.self all (channels_left c.next.new.self) c.in-Some.id c.in-Some.kind (subst (IsOnWay s c.loop-id.self all) c.in-Some.ensures.steps c.loop-id.invariant)
-    (record { main_is = e.written.0; reliable_is = e.written.1; lossy_is = e.lossy; words_are = e.paths; role_is = e.same.0; broken_is = e.same.1 }) c.in_ok-release.ensures.came
+    (record { main_is = e.written.0; reliable_is = e.written.1; lossy_is = e.lossy; words_are = e.paths; role_is = e.same.0; broken_is = e.same.1; owed_is = e.owed }) c.in_ok-release.ensures.came
 
 pub returns-clause-came : goal.returns-clause-came
 returns-clause-came c t gone st =

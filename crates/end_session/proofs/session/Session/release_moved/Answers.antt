@@ -70,7 +70,7 @@ returns-in_err-release-clause-written c =
     wrote_last s c.loop-place.self c.release.new.self (among c.args.kinds (of_request c.args.request s)) _ c.in-Some.id c.in-Some.kind
     (at_place s c.loop-place.self (the_view c.self-in-loop-place.inside) c.args.request c.loop-place.place c.in-Some.id c.in-Some.kind c.args.kinds true c.made_channel.result c.loop-place.invariant c.self-in-loop-place.view_is (v.0.0, v.0.1, sw)
     c.made_channel.ensures c.in-Some.is (sym c.has.ensures ∙ c.if-has.true))
-    (record { main_is = e.written.0; reliable_is = e.written.1; lossy_is = e.lossy; words_are = e.paths; role_is = e.same.0; broken_is = e.same.1 })
+    (record { main_is = e.written.0; reliable_is = e.written.1; lossy_is = e.lossy; words_are = e.paths; role_is = e.same.0; broken_is = e.same.1; owed_is = e.owed })
 
 pub loop-place-preserved : goal.loop-place-preserved
 loop-place-preserved c =
@@ -85,7 +85,7 @@ loop-place-preserved c =
           (onward s c.loop-place.self w.release.new.self all rest c.in-Some.id c.in-Some.kind
           (at_place s c.loop-place.self (the_view c.self-in-loop-place.inside) c.args.request c.loop-place.place c.in-Some.id c.in-Some.kind c.args.kinds true c.made_channel.result c.loop-place.invariant c.self-in-loop-place.view_is
           (v.0.0, v.0.1, sw) c.made_channel.ensures c.in-Some.is (sym c.has.ensures ∙ w.if-has.true))
-          (record { main_is = e.written.0; reliable_is = e.written.1; lossy_is = e.lossy; words_are = e.paths; role_is = e.same.0; broken_is = e.same.1 }) w.in_ok-release.ensures.came)
+          (record { main_is = e.written.0; reliable_is = e.written.1; lossy_is = e.lossy; words_are = e.paths; role_is = e.same.0; broken_is = e.same.1; owed_is = e.owed }) w.in_ok-release.ensures.came)
       | else-has w ↦ subst (λ now. IsOnWay s now all rest) (sym w.self-is)
           (at_place s c.loop-place.self (the_view c.self-in-loop-place.inside) c.args.request c.loop-place.place c.in-Some.id c.in-Some.kind c.args.kinds false c.made_channel.result c.loop-place.invariant c.self-in-loop-place.view_is
           (v.0.0, v.0.1, sw) c.made_channel.ensures c.in-Some.is (sym c.has.ensures ∙ w.if-has.false))
