@@ -1,0 +1,9 @@
+pub mod Alike
+pub mod Anywhere
+pub mod Begun
+pub mod Counting
+pub mod Cutting
+pub mod MainRead
+pub mod Needs
+pub mod Quiet
+pub mod TunnelRead
