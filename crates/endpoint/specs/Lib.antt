@@ -1,0 +1,12 @@
+pub mod Answering
+pub mod Attached
+pub mod Idle
+pub mod Kept
+pub mod Messages
+pub mod Polled
+pub mod Posted
+pub mod MainRead
+pub mod OnWay
+pub mod Pulled
+pub mod Standing
+pub mod States
