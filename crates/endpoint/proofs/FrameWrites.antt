@@ -45,7 +45,7 @@ heard_lossy : (role : Role) (t : Trace Act) (heard : Heard) (silent : Bool) → 
 heard_lossy role t (Spoken pdu) silent = reply_lossy role t (said pdu) silent
 heard_lossy role t heard silent = refl
 
-adds_lossy : (role : Role) (t : Trace Act) (act : Act) (silent : Bool) → IsOfFrame act → into Lossy silent (adds role t act) ≡ []
+pub adds_lossy : (role : Role) (t : Trace Act) (act : Act) (silent : Bool) → IsOfFrame act → into Lossy silent (adds role t act) ≡ []
 adds_lossy role t (Hears heard) silent h = heard_lossy role t heard silent
 adds_lossy role t (Answers named) silent h = refl
 adds_lossy role t (Releases kind at bytes pdu) silent h = reply_lossy role t (said pdu) silent

@@ -51,7 +51,7 @@ written_both role p q r f g h =
     append_cancel_left old (written Reliable role p r) (written Reliable role p q ++ written Reliable role q r)
     (sym (written_behind role p r h) ∙ written_behind role q r g ∙ ap (λ xs. xs ++ written Reliable role q r) (written_behind role p q f) ∙ append_assoc old (written Reliable role p q) (written Reliable role q r))
 
-load_both : (queued : ℕ) (xs ys zs : List Drawn) → zs ≡ xs ++ ys → queued + length (flat_map tunneled xs) + length (flat_map tunneled ys) ≡ queued + length (flat_map tunneled zs)
+pub load_both : (queued : ℕ) (xs ys zs : List Drawn) → zs ≡ xs ++ ys → queued + length (flat_map tunneled xs) + length (flat_map tunneled ys) ≡ queued + length (flat_map tunneled zs)
 load_both queued xs ys zs e =
     omega (arith, ap (λ ds. length (flat_map tunneled ds)) e, ap (λ (b : List ℕ). length b) (flat_map-append tunneled xs ys), length-append (flat_map tunneled xs) (flat_map tunneled ys))
 

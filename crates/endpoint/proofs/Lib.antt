@@ -25,10 +25,14 @@ mod MessagesGiven
 mod MessagesSent
 mod MessagesTaken
 mod Owed
+mod PartRead
+mod PartWrites
+mod PartsOn
 mod PolledLossy
 mod PolledReliable
 mod PullActs
 mod PullRead
+mod PullsOn
 mod Repeated
 mod Requests
 mod Rooms
@@ -40,3 +44,8 @@ mod TunnelsRefused
 mod Turning
 mod WiredOut
 mod UnderWay
+mod ReadBoth
+mod WiredBoth
+mod WiredIn
+mod WiredLossy
+mod WiredReliable

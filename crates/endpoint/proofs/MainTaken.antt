@@ -42,7 +42,7 @@ frames_main role p bytes count (Some (n, reached)) h =
     frames_between p.acts reached after.acts (front_then p.acts before.acts reached (goes_bytes role (take h.0 bytes) p) l.begun)
     (front_then reached (reached ▷ l.next) after.acts (shorter reached reached l.next (whole reached)) l.due) (frames_bytes role (take n bytes) p)
 
-refusals_front : (role : Role) (t u : Trace Act) → IsFront t u → refusals_owed role u ≤ refusals_owed role t
+pub refusals_front : (role : Role) (t u : Trace Act) → IsFront t u → refusals_owed role u ≤ refusals_owed role t
 refusals_front role t u (whole v) = omega arith
 refusals_front role t u (shorter v w act f) = omega (arith, refusals_less role w act, refusals_front role v w f)
 

@@ -41,12 +41,12 @@ use Rattle.endpoint.proofs.PullActs.{behind_lack, still_pulled}
 
 -- ---- what the reader came to
 
-record Took (p q : Past) (gone : Gone) (r : Reader) : Type 0 where
-  lack : Option (Trace Act)
-  lacks : IsReadLack p q lack
-  reads : Reads r (lacking lack q) gone
+pub record Took (p q : Past) (gone : Gone) (r : Reader) : Type 0 where
+  pub lack : Option (Trace Act)
+  pub lacks : IsReadLack p q lack
+  pub reads : Reads r (lacking lack q) gone
 
-of_goes : (p q : Past) (gone : Gone) (r : Reader) → GoesTo p q gone r → Took p q gone r
+pub of_goes : (p q : Past) (gone : Gone) (r : Reader) → GoesTo p q gone r → Took p q gone r
 of_goes p q gone r (came reads) = record { lack = None; lacks = tt; reads = reads }
 of_goes p q gone r (lacked reached lack reads) = record { lack = Some reached; lacks = lack; reads = reads }
 
@@ -58,11 +58,11 @@ some_tunneled (CreateAnswered hr) = omega arith
 some_tunneled Nothing = omega arith
 some_tunneled (Carried bytes pdu) = omega arith
 
-none_drawn : (ds : List Drawn) → flat_map tunneled ds ≡ [] → ds ≡ []
+pub none_drawn : (ds : List Drawn) → flat_map tunneled ds ≡ [] → ds ≡ []
 none_drawn [] e = refl
 none_drawn (d ∷ ds) e = absurd (omega (arith, some_tunneled d, ap length e, length-append (tunneled d) (flat_map tunneled ds)))
 
-written_on : (kind : Kind) (role : Role) (p q : Past) → IsFront p.acts q.acts → carried kind role q.acts ≡ carried kind role p.acts ++ written kind role p q
+pub written_on : (kind : Kind) (role : Role) (p q : Past) → IsFront p.acts q.acts → carried kind role q.acts ≡ carried kind role p.acts ++ written kind role p q
 written_on kind role p q f =
     let front = front_carried kind role p.acts q.acts f in
     let old = carried kind role p.acts in

@@ -1,5 +1,6 @@
 pub mod Answering
 pub mod Attached
+pub mod Handed
 pub mod Idle
 pub mod Kept
 pub mod Messages
@@ -10,3 +11,4 @@ pub mod OnWay
 pub mod Pulled
 pub mod Standing
 pub mod States
+pub mod WiredIn

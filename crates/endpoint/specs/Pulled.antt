@@ -1,22 +1,23 @@
 -- An end on its way through what its reliable link brings.
-use Rattle.std.specs.Prelude.{true, false, ◌≡◌, ℕ, ◌+◌, ◌<◌, nat_lt, Bool, not, List, [], length, take, drop, Option, Some, None}
+use Rattle.std.specs.Prelude.{true, false, ◌≡◌, ℕ, ◌+◌, ◌<◌, nat_lt, Bool, not, List, [], length, take, drop, is_some, Option, Some, None}
 use Rattle.std.specs.List.{flat_map, fold}
 use Rattle.mt_base.specs.declared.kinds.Kind.TheVariants.{Reliable, Lossy}
 use Rattle.mt_base.specs.declared.kinds.Role.{Role}
-use Rattle.mt_base.specs.Trace.{Trace, ◌▷◌}
+use Rattle.mt_base.specs.Trace.{Trace, Start, ◌▷◌}
 use Rattle.carrier.specs.declared.state.LinkState.{LinkState}
 use Rattle.carrier.specs.Entries as link
 use Rattle.mt_endpoint.specs.Acts.{Act}
 use Rattle.mt_endpoint.specs.Tunnels.{is_attached}
 use Rattle.mt_endpoint.specs.Writing.{tunneled}
-use Rattle.end_calls.specs.Calls.{Pull, lacking}
-use Rattle.end_calls.specs.Law.{IsLack}
-use Rattle.end_calls.specs.Links.{gives_all}
-use Rattle.end_calls.specs.Stops.{Outset, is_empty, load_at, wants}
+use Rattle.end_calls.specs.Calls.{Pull, after_pulls, lacking}
+use Rattle.end_calls.specs.Law.{IsLack, IsLinkLack, Pulls}
+use Rattle.end_calls.specs.Links.{by_pulls, gives_all}
+use Rattle.end_calls.specs.Stops.{Outset, is_empty, load_at, pulled_bytes, wants}
 use Rattle.end_calls.specs.Streams.{Past, with_tunnel, written}
 use Rattle.end_reader.specs.declared.reader.Reader.{Reader}
 use Rattle.end_session.specs.Standing.{Gone}
 use Rattle.end_session.specs.Store.{Store}
+use Rattle.endpoint.specs.MainRead.{begins_with}
 use Rattle.endpoint.specs.OnWay.{OnWay}
 
 -- memory may be wanting between these two pasts
@@ -53,3 +54,18 @@ pub record IsAt (role : Role) (outset : Outset) (p : Past) (gone : Gone) (s : St
   pub sent_is : length gone.main ≡ outset.sent
   pub load_is : is_attached Reliable p.acts ≡ true → load ≡ load_at role outset p
   pub none_loaded : is_attached Reliable p.acts ≡ false → load ≡ 0
+
+-- the past behind these pulls, up to the want of memory
+abbrev pub pulled_by : Role → Past → Trace Pull → Option (Trace Act) → Past
+pulled_by role p pulls lack = lacking lack (after_pulls role p pulls)
+
+-- All that the reliable link had was pulled and read, up to a stop, and nothing was written for the lossy one.
+pub record AllPulled {L : Type 0} (stands : L → Trace link.Entry → Type 0) (left : L → List ℕ) (condition : L → LinkState) (load : L → ℕ) (unread sent : List ℕ) (role : Role) (p : Past) (l : Trace link.Entry) (queued : ℕ) (r : Reader) (c : L) : Type 0 where
+  pub pulls : Trace Pull
+  pub lack : Option (Trace Act)
+  pub pulled : Pulls role (begins_with sent queued p) Reliable unread pulls (is_some lack)
+  pub lacks : IsLinkLack role p pulls Start lack
+  pub way : OnWay stands left condition load (drop (length (pulled_bytes pulls)) unread) sent role (pulled_by role p pulls lack) (by_pulls Reliable role p pulls lack l)
+      (queued + length (flat_map tunneled (written Reliable role p (pulled_by role p pulls lack)))) r (Some c)
+  pub none_lossy : written Lossy role p (pulled_by role p pulls lack) ≡ []
+  pub none_called : (m : Trace link.Entry) → by_pulls Lossy role p pulls lack m ≡ m

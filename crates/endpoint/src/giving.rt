@@ -28,8 +28,10 @@ pub(crate) fn give_waiting<C: Carrier>(link: &mut C, bytes: &[u8])
 pub(crate) fn post_waiting<P: Post>(link: &mut P, bytes: &[u8])
     requires { length bytes.now ≤ 1000 }
     ensures trace { (t : Trace Called) → P.stands link.old t → is_closed (P.condition link.old) ≡ false → P.load link.old < WINDOW → P.stands link.new (posts_bytes bytes.now t) }
+    ensures load { P.load link.new ≤ P.load link.old + 1 }
     ensures left { P.left link.new ≡ P.left link.old }
     ensures state { P.condition link.new ≡ P.condition link.old }
+    ensures none { bytes.now ≡ [] → link.new ≡ link.old }
 {
     if bytes.is_empty() {
         return;

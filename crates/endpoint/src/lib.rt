@@ -7,9 +7,9 @@
 //! That it stands for some list is an invariant of its type. Each call here adds its entry to every list that
 //! the end stood for, or is refused and changes nothing.
 //!
-//! The main stream is read ([`Endpoint::main_in`]). What reads the links is still to come: one pull of the
-//! reliable link stands (`src/pulling.rt`), with the stop before it (`src/link_stop.rt`), and no call makes it
-//! yet. The counts are still to come as well (docs/ENDPOINT.md).
+//! All calls stand. [`Endpoint::main_in`] reads the main stream; [`Endpoint::wire_in`] pulls and reads what the
+//! reliable link has (`src/pulling.rt`), and takes the parts of the lossy one (`src/parts.rt`), up to a stop
+//! (`src/link_stop.rt`). The counts are still to come (docs/ENDPOINT.md).
 #![tactic(auto)]
 
 mod attaching;
@@ -20,6 +20,7 @@ mod handing;
 mod laws;
 mod link_stop;
 mod main_reading;
+mod parts;
 mod polling;
 mod postings;
 mod pulling;
@@ -31,6 +32,7 @@ mod serving;
 mod silence;
 mod state;
 mod taking;
+mod wiring;
 
 pub use endpoint::Endpoint;
 pub use laws::nothing_goes_where_no_link_is;

@@ -80,6 +80,7 @@ fn read_all<C: Carrier + Drop>(reader: &mut Reader, reliable: &mut Option<C>, by
     requires lawful { SomeWay C.stands C.left C.condition C.load reader.old reliable.old }
     ensures read { (unread sent : List ℕ) (role : Role) (p : Past) (l : Trace Called) (queued : ℕ) → OnWay C.stands C.left C.condition C.load unread sent role p l queued reader.old reliable.old → AllRead C.stands C.left C.condition C.load unread sent role p l queued bytes.now result reader.new reliable.new }
     ensures room { KeepsRoom (reader.old).session (reader.new).session }
+    ensures bound { result ≤ length bytes.now }
 {
     let mut taken = 0;
     while taken < bytes.len() && !is_stopped(reader, reliable) {
@@ -92,7 +93,7 @@ fn read_all<C: Carrier + Drop>(reader: &mut Reader, reliable: &mut Option<C>, by
 }
 
 impl<C: Carrier + Drop, P: Post + Drop> Endpoint<C, P> {
-    ghost use Rattle.std.specs.Prelude.{◌≡◌, ℕ, Option};
+    ghost use Rattle.std.specs.Prelude.{◌≡◌, ◌≤◌, ℕ, length, Option};
     ghost use Rattle.mt_base.specs.declared.kinds.Role.{Role};
     ghost use Rattle.mt_base.specs.Trace.{Trace, ◌▷◌};
     ghost use Rattle.mt_endpoint.specs.Acts.{Act};
@@ -107,7 +108,8 @@ impl<C: Carrier + Drop, P: Post + Drop> Endpoint<C, P> {
     /// reliable link's has fewer than 3,072 free. At a fault, and where memory is wanting, all of them count as
     /// taken; a broken end takes none.
     pub fn main_in(&mut self, bytes: &[u8]) -> usize
-        ensures { (role : Role) (t : Trace Entry) → EndStands C.stands C.left C.condition P.stands P.left P.condition self.old role t → (lack : Option (ℕ × Trace Act)) × EndStands C.stands C.left C.condition P.stands P.left P.condition self.new role (t ▷ MainIn bytes.now result (load_in C.load self.old.reliable) lack) }
+        ensures bound { result ≤ length bytes.now }
+        ensures reads { (role : Role) (t : Trace Entry) → EndStands C.stands C.left C.condition P.stands P.left P.condition self.old role t → (lack : Option (ℕ × Trace Act)) × EndStands C.stands C.left C.condition P.stands P.left P.condition self.new role (t ▷ MainIn bytes.now result (load_in C.load self.old.reliable) lack) }
     {
         read_all(&mut self.reader, &mut self.reliable, bytes)
     }

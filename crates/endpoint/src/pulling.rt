@@ -8,10 +8,12 @@ ghost use Rattle.carrier.specs.Entries.{Entry as Called, Pulled};
 ghost use Rattle.end_calls.specs.declared.limits.TheConstants.{ANSWER, CONTROL, MAIN_QUEUE};
 ghost use Rattle.end_calls.specs.Streams.{Past};
 ghost use Rattle.end_session.specs.Drawing.{IsHeldBeside};
+ghost use Rattle.endpoint.specs.MainRead.{KeepsRoom};
 ghost use Rattle.endpoint.specs.OnWay.{OnWay, SomeWay};
-ghost use Rattle.endpoint.specs.Pulled.{OnePull};
+ghost use Rattle.endpoint.specs.Pulled.{AllPulled, OnePull};
 
 use crate::giving::give_waiting;
+use crate::link_stop::is_link_stopped;
 use carrier::Carrier;
 use end_reader::Reader;
 use mt_base::Kind;
@@ -52,4 +54,16 @@ fn pull_one<C: Carrier + Drop>(reader: &mut Reader, link: &mut C) -> bool
     give_waiting(link, reader.session.waiting(Kind::Reliable));
     reader.session.given(Kind::Reliable);
     count == wanted
+}
+
+/// Pulls what the reliable link has and reads it, tunnel PDU by tunnel PDU, up to a stop.
+pub(crate) fn pull_all<C: Carrier + Drop>(reader: &mut Reader, link: &mut C)
+    requires lawful { SomeWay C.stands C.left C.condition C.load reader.old (Some link.old) }
+    ensures pulled { (unread sent : List ℕ) (role : Role) (p : Past) (l : Trace Called) (queued : ℕ) → OnWay C.stands C.left C.condition C.load unread sent role p l queued reader.old (Some link.old) → AllPulled C.stands C.left C.condition C.load unread sent role p l queued reader.new link.new }
+    ensures room { KeepsRoom (reader.old).session (reader.new).session }
+{
+    let mut is_whole = true;
+    while is_whole && !is_link_stopped(&reader.session, link.queued()) {
+        is_whole = pull_one(reader, link);
+    }
 }

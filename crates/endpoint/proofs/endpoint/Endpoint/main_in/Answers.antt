@@ -16,8 +16,8 @@ read_all-requires g c =
     let t = old.1 in
     record { lawful = (unpulled t, given_main t, role, past role t, linked Reliable role t, load_in g.C.Carrier.load c.self.inside.reliable, on_way _ _ _ g.C.Carrier.load _ _ _ _ _ _ _ role t old.2) }
 
-pub returns : goal.returns
-returns g c role t k =
+pub returns-clause-reads : goal.returns-clause-reads
+returns-clause-reads g c role t k =
     let e = inside _ _ c.self.view_is k in
     let all = c.read_all.ensures.read (unpulled t) (given_main t) role (past role t) (linked Reliable role t) (load_in g.C.Carrier.load c.self.inside.reliable) (on_way _ _ _ g.C.Carrier.load _ _ _ _ _ _ _ role t e) in
     taken_with _ _ _ g.C.Carrier.load _ _ _ _ _ _ _ _ _ role t c.args.bytes.now c.read_all.result _ (ap (λ k. load_in g.C.Carrier.load k.reliable) c.self.view_is) e all c.read_all.ensures.room
