@@ -1,0 +1,5 @@
+mod Adding
+pub mod Halves
+mod Places
+mod OpenTunnels
+mod ByHand
