@@ -1,0 +1,10 @@
+mod Attached
+mod Bytes
+mod Growing
+mod Handing
+mod InTime
+mod Inside
+mod Made
+mod Moved
+mod Polled
+mod Wired

@@ -1,0 +1,5 @@
+pub mod Attaching
+pub mod Delivered
+pub mod Given
+pub mod Joined
+pub mod Moving

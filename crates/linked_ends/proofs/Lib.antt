@@ -1,0 +1,4 @@
+mod Quiet
+mod Stepwise
+mod Coming
+mod Joining
