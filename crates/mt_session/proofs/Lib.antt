@@ -1,0 +1,4 @@
+pub mod Stepping
+pub mod Tallies
+pub mod Lists
+pub mod Counts

@@ -1,0 +1,9 @@
+pub mod Steps
+pub mod Turns
+pub mod Buffer
+pub mod Live
+pub mod Answers
+pub mod Leading
+pub mod Counting
+pub mod Carried
+pub mod Lending
