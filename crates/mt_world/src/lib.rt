@@ -2,9 +2,9 @@
 //!
 //! A [`World`] plays events one by one, and its report says what each end sent and what arrived;
 //! [`read_script`] gives the events of a script. Below it stand `mt_script`, whose names it hands
-//! on, `dvc_pdus` and `mt_base`. What the program above uses is that the calls which a world has
-//! made are those that Play gives for the script's lines, and that in such a list each channel's
-//! delivered messages are a prefix of those sent.
+//! on, `play_report`, which has the report's lines, `dvc_pdus` and `mt_base`. What the program above
+//! uses is that the calls which a world has made are those that Play gives for the script's lines,
+//! and that in such a list each channel's delivered messages are a prefix of those sent.
 #![tactic(auto)]
 
 mod channel;
@@ -12,7 +12,6 @@ mod end;
 mod frame;
 mod laws;
 mod refusal;
-mod report;
 mod side;
 mod world;
 

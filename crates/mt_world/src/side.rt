@@ -1,11 +1,13 @@
 //! One side of a world: its end, and what it sent, received and took so far.
 
-ghost use Rattle.std.specs.Prelude.{◌≡◌, ◌++◌, OnOk};
+ghost use Rattle.std.specs.Prelude.{◌≡◌, ℕ, List, ◌++◌, OnOk};
+ghost use Rattle.play_report.specs.Tallying.{Counts};
 
 use crate::end::End;
 use crate::refusal::{Refused, StepRefusal};
 use mt_base::{NoMemory, Role};
 use mt_script::Text;
+use play_report::Tally;
 use std::alloc::Global;
 
 /// An end, and beside it what a report counts.
@@ -18,7 +20,7 @@ pub(crate) struct Side {
 }
 
 impl Side {
-    ghost use Rattle.std.specs.Prelude.{◌≡◌, ℕ, ◌+◌, ◌≤◌, List, length, IfOk, OnOk};
+    ghost use Rattle.std.specs.Prelude.{◌≡◌, ◌+◌, ◌≤◌, ◌++◌, length, IfOk, OnOk};
     ghost use Rattle.mt_base.specs.Trace.{Trace, Start, ◌▷◌};
     ghost use Rattle.mt_base.specs.declared.kinds.Role.{Role};
     ghost use Rattle.mt_world.specs.Acts.{Entry, Made, Opened, Sent, MainIn, MainOut, past, names, unsent, waiting};
@@ -45,18 +47,24 @@ impl Side {
         &self.end
     }
 
-    /// The messages that the end sent on the first channel.
-    pub(crate) fn sent(&self) -> &[Text]
-        ensures { result.now ≡ self.now.sent.items }
+    /// The tally of the messages that the end sent on the first channel.
+    pub(crate) fn sent(&self) -> Tally
+        ensures { Counts result self.now.sent.items }
     {
-        &self.sent
+        let mut tally = Tally::new();
+        add_all(&mut tally, &self.sent);
+        tally
     }
 
-    /// The messages of the first channel that were handed out.
-    pub(crate) fn received(&self) -> &[Text]
-        ensures { result.now ≡ self.now.received.items }
+    /// The tally of the messages of the first channel that came whole: those that were handed out,
+    /// and those that wait.
+    pub(crate) fn delivered(&self) -> Tally
+        ensures { Counts result (self.now.received.items ++ self.now.end.inbox.items) }
     {
-        &self.received
+        let mut tally = Tally::new();
+        add_all(&mut tally, &self.received);
+        add_all(&mut tally, self.end.waiting());
+        tally
     }
 
     /// How many bytes of the main stream the end took.
@@ -141,4 +149,13 @@ fn append(to: &mut Vec<Text>, messages: Vec<Text>) -> Result<(), NoMemory>
 {
     to.extend(messages)?;
     Ok(())
+}
+
+/// Puts messages into a tally, one after the other.
+fn add_all(tally: &mut Tally, messages: &[Text])
+    ensures { (before : List (List ℕ)) → Counts tally.old before → Counts tally.new (before ++ messages.now) }
+{
+    for message in messages {
+        tally.add(message.bytes());
+    }
 }

@@ -1,10 +1,13 @@
 //! A world: two sides and the main stream between them.
 
+ghost use Rattle.std.specs.Prelude.{◌≡◌, ◌++◌, OnOk};
+ghost use Rattle.play_report.specs.Lines.{channel_line};
+
 use crate::refusal::StepRefusal;
-use crate::report::Report;
 use crate::side::Side;
 use mt_base::{NoMemory, Role};
 use mt_script::{Event, Text};
+use play_report::Report;
 use std::alloc::Global;
 
 /// Two ends of a session, and all that was sent, delivered and moved between them.
@@ -125,10 +128,24 @@ impl World {
     {
         let mut report = Report::new(self.alloc);
         if let Some(name) = self.server.end().names().first() {
-            report.channel(1, name.bytes(), Role::Server, &self.server, &self.client)?;
-            report.channel(1, name.bytes(), Role::Client, &self.client, &self.server)?;
+            tell(&mut report, name, Role::Server, &self.server, &self.client)?;
+            tell(&mut report, name, Role::Client, &self.client, &self.server)?;
         }
-        report.main(self.client.arrived(), self.server.arrived())?;
+        report.main(self.client.arrived() as u64, self.server.arrived() as u64)?;
         Ok(report.into_text())
     }
+}
+
+/// The line of what one side sent on the first channel, and of what came of it at the other.
+fn tell(
+    report: &mut Report,
+    name: &Text,
+    side: Role,
+    from: &Side,
+    to: &Side,
+) -> Result<(), NoMemory>
+    ensures { OnOk result (report.new ≡
+        report.old ++ channel_line 1 name.now side from.now.sent.items (to.now.received.items ++ to.now.end.inbox.items)) }
+{
+    report.channel(1, name.bytes(), side, &from.sent(), &to.delivered())
 }
