@@ -13,6 +13,7 @@ fn a_report_is_written_line_by_line(rt: HostRuntime) -> Result<(), Fail> {
     let mut sent = Tally::new();
     sent.add(b"ab");
     sent.add(b"c");
+    assert_eq!(rt; sent.count(), 2);
     let mut report = Report::new(rt.alloc());
     report.channel(1, b"files", Role::Server, &sent, &Tally::new())?;
     report.tunnel(Kind::Reliable, b"open", 3, 2)?;
