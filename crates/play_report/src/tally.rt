@@ -47,6 +47,7 @@ impl Tally {
     pub fn digest(&self) -> [u8; 32]
         ensures { (messages : List (List ℕ)) → Counts self.now messages → result ≡ sha256 (joined messages) }
     {
+        // A copy of a hasher takes no memory, so there always is one.
         self.hasher.clone().unwrap().finalize()
     }
 }
