@@ -6,4 +6,8 @@
 
 mod laws;
 
-pub use laws::{what_comes_in_time, what_is_delivered_was_sent};
+pub use laws::{
+    a_link_that_is_attached_keeps_its_settings, a_new_link_keeps_its_settings,
+    links_stay_as_they_were_made, no_links_keep_any_settings, what_comes_in_time,
+    what_is_delivered_was_sent,
+};
