@@ -1,9 +1,8 @@
 -- The law by which a link keeps, from call to call.
-use Rattle.std.proofs.Common.{◌≡◌, ◌↔◌, Option, Some, None, refl, sym, subst}
+use Rattle.std.proofs.Common.{Option, Some, None}
 use Rattle.mt_base.specs.Trace.{Trace}
 use Rattle.carrier.specs.Entries as link
-use Rattle.endpoint.specs.Kept.{Kept}
-use Rattle.endpoint.specs.Laws.{HasLawOf, KeepsLaw, KeepsLaws, SameLaw}
+use Rattle.endpoint.specs.Laws.{KeepsLaw, SameLaw}
 
 -- ---- one link
 
@@ -26,15 +25,3 @@ keeps_then law None (Some b) third one two = absurd one
 keeps_then law (Some a) None third one two = absurd one
 keeps_then law (Some a) (Some b) None one two = absurd two
 keeps_then law (Some a) (Some b) (Some c) one two = law_then law a b c one two
-
-pub keeps_some : {L : Type 0} (law : L → Trace link.Entry → Type 0) (old : Option L) (l new : L) → old ≡ Some l → SameLaw law l new → KeepsLaw law old (Some new)
-keeps_some law old l new is kept = subst (λ o. KeepsLaw law o (Some new)) (sym is) kept
-
--- ---- both links of an end
-
-pub laws_same : {C P : Type 0} (carrier_law : C → Trace link.Entry → Type 0) (post_law : P → Trace link.Entry → Type 0) (kept : Kept C P) → KeepsLaws carrier_law post_law kept kept
-laws_same carrier_law post_law kept = record { reliable = keeps_same carrier_law kept.reliable; lossy = keeps_same post_law kept.lossy }
-
--- an end by its fields, and as clauses see it
-pub laws_seen : {C P : Type 0} (carrier_law : C → Trace link.Entry → Type 0) (post_law : P → Trace link.Entry → Type 0) (fields seen new : Kept C P) → fields ≡ seen → KeepsLaws carrier_law post_law fields new → KeepsLaws carrier_law post_law seen new
-laws_seen carrier_law post_law fields seen new is kept = subst (λ k. KeepsLaws carrier_law post_law k new) is kept
