@@ -2,6 +2,9 @@
 //!
 //! A pair of ends (`end_pair`) stands for one list of the calls of both. Here that list is shown to be one of two ends
 //! over a network (`end_net`), so that all that holds of such a network holds of the code.
+//!
+//! The premise is that each link keeps the law of the settings of its side and kind (`UsesLinks`). It holds of two ends
+//! that were made, and behind each call of a pair: four laws take it from call to call.
 #![tactic(auto)]
 
 mod laws;

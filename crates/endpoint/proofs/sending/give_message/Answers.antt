@@ -17,6 +17,6 @@ loop-k-preserved g c =
     let gave = c.give_waiting.ensures in
     record {
       gives = gives_next g.C.Carrier.stands g.C.Carrier.left g.C.Carrier.condition g.C.Carrier.load pdus k pdu (take c.wrap_fragment-count.result c.wrap_fragment-count.new.out) c.args.link.now c.loop-k.link c.give_waiting.new.link before.gives at
-    (c.wrap_fragment-count.ensures.bytes pdu at) gave.trace gave.load gave.left gave.state;
+          (c.wrap_fragment-count.ensures.bytes pdu at) gave.trace gave.load gave.left gave.state;
       law = law_then g.C.Carrier.law c.args.link.now c.loop-k.link c.give_waiting.new.link before.law gave.law;
     }
