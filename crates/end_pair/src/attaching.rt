@@ -1,12 +1,13 @@
 //! Tunnels get their links.
 
-ghost use Rattle.std.specs.Prelude.{◌≡◌, true, false, []};
+ghost use Rattle.std.specs.Prelude.{◌≡◌, true, false, [], None};
 ghost use Rattle.mt_base.specs.declared.kinds.Kind.TheVariants as kinds;
 ghost use Rattle.mt_base.specs.declared.kinds.Role.{Role as Side};
 ghost use Rattle.mt_base.specs.Trace.{Trace, Start, ◌▷◌};
 ghost use Rattle.mt_endpoint.specs.Acts.{Attaches};
 ghost use Rattle.end_calls.specs.Calls.{Entry, Own, past};
 ghost use Rattle.endpoint.specs.Attached.{is_closed};
+ghost use Rattle.endpoint.specs.Laws.{HasLawOf, KeepsLaw};
 ghost use Rattle.endpoint.specs.Standing.{EndStands};
 ghost use Rattle.end_session.specs.OfKind.{tunnel_of};
 ghost use Rattle.end_pair.specs.Attaching.{Waits, is_asked_state, is_fine, may_attach};
@@ -45,6 +46,7 @@ fn is_asked(state: TunnelState) -> bool
 fn waits_for_link<C: Carrier + Drop, P: Post + Drop>(end: &Endpoint<C, P>, kind: Kind) -> bool
     ensures acts { (role : Side) (t : Trace Entry) → EndStands C.stands C.left C.condition P.stands P.left P.condition end.now role t → result ≡ may_attach role kind (past role t) }
     ensures asked { result ≡ true → Waits (end.now.reader.session).role (tunnel_of kind end.now.reader.session) }
+    ensures whole { result ≡ true → (end.now.reader.session).broken ≡ None }
 {
     if !goes_on(end.state()) {
         return false;
@@ -60,6 +62,8 @@ fn give_reliable<C: Carrier + Drop, P: Post + Drop>(end: &mut Endpoint<C, P>, li
     ensures attached { (role : Side) (t : Trace Entry) → EndStands C.stands C.left C.condition P.stands P.left P.condition end.old role t → result ≡ true → EndStands C.stands C.left C.condition P.stands P.left P.condition end.new role (t ▷ Own (Attaches kinds.Reliable)) }
     ensures cause { (role : Side) (t : Trace Entry) → EndStands C.stands C.left C.condition P.stands P.left P.condition end.old role t → result ≡ may_attach role kinds.Reliable (past role t) }
     ensures unchanged { result ≡ false → end.new ≡ end.old }
+    ensures law { result ≡ true → HasLawOf C.law link end.new.reliable }
+    ensures other_law { KeepsLaw P.law end.old.lossy end.new.lossy }
 {
     if !waits_for_link(end, Kind::Reliable) {
         return false;
@@ -76,6 +80,8 @@ fn give_lossy<C: Carrier + Drop, P: Post + Drop>(end: &mut Endpoint<C, P>, link:
     ensures attached { (role : Side) (t : Trace Entry) → EndStands C.stands C.left C.condition P.stands P.left P.condition end.old role t → result ≡ true → EndStands C.stands C.left C.condition P.stands P.left P.condition end.new role (t ▷ Own (Attaches kinds.Lossy)) }
     ensures cause { (role : Side) (t : Trace Entry) → EndStands C.stands C.left C.condition P.stands P.left P.condition end.old role t → result ≡ may_attach role kinds.Lossy (past role t) }
     ensures unchanged { result ≡ false → end.new ≡ end.old }
+    ensures law { result ≡ true → HasLawOf P.law link end.new.lossy }
+    ensures other_law { KeepsLaw C.law end.old.reliable end.new.reliable }
 {
     if !waits_for_link(end, Kind::Lossy) {
         return false;
@@ -88,13 +94,15 @@ impl<C: Carrier + Drop, P: Post + Drop> Pair<C, P> {
     ghost use Rattle.std.specs.Prelude.{◌≡◌, true, false, []};
     ghost use Rattle.mt_base.specs.declared.kinds.Kind.TheVariants as kinds;
     ghost use Rattle.mt_base.specs.declared.kinds.Role.{Role as Side};
+    ghost use Rattle.mt_base.specs.Ends.{other};
     ghost use Rattle.mt_base.specs.Trace.{Trace, Start, ◌▷◌};
     ghost use Rattle.mt_endpoint.specs.Acts.{Attaches};
     ghost use Rattle.end_calls.specs.Calls.{Entry, Own, past};
     ghost use Rattle.end_calls.specs.Net.{at};
     ghost use Rattle.endpoint.specs.Attached.{is_closed};
+    ghost use Rattle.endpoint.specs.Laws.{HasLawOf, KeepsLaw};
     ghost use Rattle.end_pair.specs.Attaching.{may_attach};
-    ghost use Rattle.end_pair.specs.Joined.{PairStands};
+    ghost use Rattle.end_pair.specs.Joined.{PairStands, end_of};
 
     /// The reliable tunnel of an end gets this link, of which nothing was called yet, where it was asked for, has no
     /// link yet, was not refused and isn't silent, and the end goes on
@@ -107,6 +115,9 @@ impl<C: Carrier + Drop, P: Post + Drop> Pair<C, P> {
         ensures attached { (w : Trace (Side × Entry)) → PairStands C.stands C.left C.condition P.stands P.left P.condition self.old w → result ≡ true → PairStands C.stands C.left C.condition P.stands P.left P.condition self.new (w ▷ (side, Own (Attaches kinds.Reliable))) }
         ensures cause { (w : Trace (Side × Entry)) → PairStands C.stands C.left C.condition P.stands P.left P.condition self.old w → result ≡ may_attach side kinds.Reliable (past side (at side w)) }
         ensures unchanged { result ≡ false → self.new ≡ self.old }
+        ensures law { result ≡ true → HasLawOf C.law link (end_of side self.new).reliable }
+        ensures other_law { KeepsLaw P.law (end_of side self.old).lossy (end_of side self.new).lossy }
+        ensures other_end { end_of (other side) self.new ≡ end_of (other side) self.old }
     {
         match side {
             Role::Server => give_reliable(&mut self.server, link),
@@ -122,6 +133,9 @@ impl<C: Carrier + Drop, P: Post + Drop> Pair<C, P> {
         ensures attached { (w : Trace (Side × Entry)) → PairStands C.stands C.left C.condition P.stands P.left P.condition self.old w → result ≡ true → PairStands C.stands C.left C.condition P.stands P.left P.condition self.new (w ▷ (side, Own (Attaches kinds.Lossy))) }
         ensures cause { (w : Trace (Side × Entry)) → PairStands C.stands C.left C.condition P.stands P.left P.condition self.old w → result ≡ may_attach side kinds.Lossy (past side (at side w)) }
         ensures unchanged { result ≡ false → self.new ≡ self.old }
+        ensures law { result ≡ true → HasLawOf P.law link (end_of side self.new).lossy }
+        ensures other_law { KeepsLaw C.law (end_of side self.old).reliable (end_of side self.new).reliable }
+        ensures other_end { end_of (other side) self.new ≡ end_of (other side) self.old }
     {
         match side {
             Role::Server => give_lossy(&mut self.server, link),

@@ -5,6 +5,8 @@
 //! were made (`specs/Joined.antt`), and each of its calls adds to that list. A datagram comes only where the other end
 //! gave it, and fewer than [`LATE`] were given on its link after it: so the law of two ends over a network
 //! (`end_net`) speaks of every list that a pair stands for.
+//!
+//! No call but an attachment changes by which law a link of either end keeps (`specs/Laws.antt`).
 #![tactic(auto)]
 
 mod attaching;

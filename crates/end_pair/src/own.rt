@@ -19,6 +19,7 @@ impl<C: Carrier + Drop, P: Post + Drop> Pair<C, P> {
     ghost use Rattle.end_calls.specs.Refusing.{why_not_closed, why_not_sent};
     ghost use Rattle.endpoint.specs.Attached.{load_in};
     ghost use Rattle.end_pair.specs.Joined.{PairStands, end_of};
+    ghost use Rattle.end_pair.specs.Laws.{PairKeepsLaws};
 
     /// An end sends a message, as [`Endpoint::send`](endpoint::Endpoint::send) says.
     pub fn send(&mut self, side: Role, id: u32, message: &[u8]) -> Result<(), SendRefusal>
@@ -26,6 +27,7 @@ impl<C: Carrier + Drop, P: Post + Drop> Pair<C, P> {
         ensures allowed { (w : Trace (Side × Entry)) → PairStands C.stands C.left C.condition P.stands P.left P.condition self.old w → OnOk result (why_not_sent (past side (at side w)).broken side (acts side (at side w)) (record { unsent = length (unsent side (at side w)); reliable = load_in C.load (end_of side self.old).reliable; lossy = load_in P.load (end_of side self.old).lossy }) id message.now ≡ None) }
         ensures refused { (w : Trace (Side × Entry)) → PairStands C.stands C.left C.condition P.stands P.left P.condition self.old w → IfErr result (λ why. why_not_sent (past side (at side w)).broken side (acts side (at side w)) (record { unsent = length (unsent side (at side w)); reliable = load_in C.load (end_of side self.old).reliable; lossy = load_in P.load (end_of side self.old).lossy }) id message.now ≡ Some why) }
         ensures unchanged { OnErr result (self.new ≡ self.old) }
+        ensures laws { PairKeepsLaws C.law P.law self.old self.new }
     {
         match side {
             Role::Server => self.server.send(id, message),
@@ -39,6 +41,7 @@ impl<C: Carrier + Drop, P: Post + Drop> Pair<C, P> {
         ensures allowed { (w : Trace (Side × Entry)) → PairStands C.stands C.left C.condition P.stands P.left P.condition self.old w → OnOk result (why_not_closed (past side (at side w)).broken side (acts side (at side w)) (record { unsent = length (unsent side (at side w)); reliable = load_in C.load (end_of side self.old).reliable; lossy = load_in P.load (end_of side self.old).lossy }) id ≡ None) }
         ensures refused { (w : Trace (Side × Entry)) → PairStands C.stands C.left C.condition P.stands P.left P.condition self.old w → IfErr result (λ why. why_not_closed (past side (at side w)).broken side (acts side (at side w)) (record { unsent = length (unsent side (at side w)); reliable = load_in C.load (end_of side self.old).reliable; lossy = load_in P.load (end_of side self.old).lossy }) id ≡ Some why) }
         ensures unchanged { OnErr result (self.new ≡ self.old) }
+        ensures laws { PairKeepsLaws C.law P.law self.old self.new }
     {
         match side {
             Role::Server => self.server.close_channel(id),
@@ -52,6 +55,7 @@ impl<C: Carrier + Drop, P: Post + Drop> Pair<C, P> {
         ensures taken { (w : Trace (Side × Entry)) → PairStands C.stands C.left C.condition P.stands P.left P.condition self.old w → IfSome result (λ message. PairStands C.stands C.left C.condition P.stands P.left P.condition self.new (w ▷ (side, Own (Takes id message)))) }
         ensures oldest { (w : Trace (Side × Entry)) → PairStands C.stands C.left C.condition P.stands P.left P.condition self.old w → result ≡ slice_get (untaken (table side (acts side (at side w))) id) 0 }
         ensures none { IfNone result (self.new ≡ self.old) }
+        ensures laws { PairKeepsLaws C.law P.law self.old self.new }
     {
         match side {
             Role::Server => self.server.take(id),

@@ -3,7 +3,7 @@
 use carrier::{Carrier, Post};
 use endpoint::Endpoint;
 use link_traffic::Traffic;
-use mt_base::{NoMemory, Role};
+use mt_base::{Kind, NoMemory, Role};
 use std::alloc::Global;
 use std::marker::Model;
 
@@ -35,7 +35,7 @@ impl<C: Carrier + Drop, P: Post + Drop> Model for Pair<C, P> {
 impl<C: Carrier + Drop, P: Post + Drop> Pair<C, P> {
     ghost use Rattle.std.specs.Prelude.{◌≡◌, IfOk};
     ghost use Rattle.mt_base.specs.declared.kinds.Role.{Role as Side};
-    ghost use Rattle.end_pair.specs.Joined.{PairStands, end_of, made};
+    ghost use Rattle.end_pair.specs.Joined.{PairStands, end_of, made, on};
 
     /// Two ends that were made, with no link and nothing under way.
     pub fn new(alloc: Global) -> Result<Pair<C, P>, NoMemory>
@@ -58,6 +58,16 @@ impl<C: Carrier + Drop, P: Post + Drop> Pair<C, P> {
         match side {
             Role::Server => &self.server,
             Role::Client => &self.client,
+        }
+    }
+
+    /// All datagrams that both ends gave on the link of this kind, in their order.
+    pub fn traffic(&self, kind: Kind) -> &Traffic
+        ensures { result.now ≡ on kind self.now }
+    {
+        match kind {
+            Kind::Reliable => &self.reliable,
+            Kind::Lossy => &self.lossy,
         }
     }
 }

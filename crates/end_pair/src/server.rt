@@ -17,6 +17,7 @@ impl<C: Carrier + Drop, P: Post + Drop> Pair<C, P> {
     ghost use Rattle.end_calls.specs.Refusing.{next_id, why_not_asked, why_not_moved, why_not_opened};
     ghost use Rattle.end_session.specs.Causes.{IsOpenCause};
     ghost use Rattle.end_pair.specs.Joined.{PairStands};
+    ghost use Rattle.end_pair.specs.Laws.{PairKeepsLaws};
 
     /// The server creates a channel, as [`Endpoint::open_channel`](endpoint::Endpoint::open_channel) says.
     pub fn open_channel(&mut self, name: &[u8]) -> Result<u32, OpenRefusal>
@@ -24,6 +25,7 @@ impl<C: Carrier + Drop, P: Post + Drop> Pair<C, P> {
         ensures allowed { (w : Trace (Side × Entry)) → PairStands C.stands C.left C.condition P.stands P.left P.condition self.old w → OnOk result (why_not_opened (past Server (at Server w)).broken (acts Server (at Server w)) (length (unsent Server (at Server w))) name.now ≡ None) }
         ensures refused { (w : Trace (Side × Entry)) → PairStands C.stands C.left C.condition P.stands P.left P.condition self.old w → IfErr result (λ why. IsOpenCause (why_not_opened (past Server (at Server w)).broken (acts Server (at Server w)) (length (unsent Server (at Server w))) name.now) why) }
         ensures unchanged { OnErr result (self.new ≡ self.old) }
+        ensures laws { PairKeepsLaws C.law P.law self.old self.new }
     {
         self.server.open_channel(name)
     }
@@ -34,6 +36,7 @@ impl<C: Carrier + Drop, P: Post + Drop> Pair<C, P> {
         ensures allowed { (w : Trace (Side × Entry)) → PairStands C.stands C.left C.condition P.stands P.left P.condition self.old w → OnOk result (why_not_asked (past Server (at Server w)).broken (acts Server (at Server w)) (length (unsent Server (at Server w))) kind id cookie.now ≡ None) }
         ensures refused { (w : Trace (Side × Entry)) → PairStands C.stands C.left C.condition P.stands P.left P.condition self.old w → IfErr result (λ why. why_not_asked (past Server (at Server w)).broken (acts Server (at Server w)) (length (unsent Server (at Server w))) kind id cookie.now ≡ Some why) }
         ensures unchanged { OnErr result (self.new ≡ self.old) }
+        ensures laws { PairKeepsLaws C.law P.law self.old self.new }
     {
         self.server.ask_tunnel(kind, id, cookie)
     }
@@ -44,6 +47,7 @@ impl<C: Carrier + Drop, P: Post + Drop> Pair<C, P> {
         ensures allowed { (w : Trace (Side × Entry)) → PairStands C.stands C.left C.condition P.stands P.left P.condition self.old w → OnOk result (why_not_moved (past Server (at Server w)).broken (acts Server (at Server w)) (length (unsent Server (at Server w))) reliable.now lossy.now ≡ None) }
         ensures refused { (w : Trace (Side × Entry)) → PairStands C.stands C.left C.condition P.stands P.left P.condition self.old w → IfErr result (λ why. why_not_moved (past Server (at Server w)).broken (acts Server (at Server w)) (length (unsent Server (at Server w))) reliable.now lossy.now ≡ Some why) }
         ensures unchanged { OnErr result (self.new ≡ self.old) }
+        ensures laws { PairKeepsLaws C.law P.law self.old self.new }
     {
         self.server.soft_sync(reliable, lossy)
     }

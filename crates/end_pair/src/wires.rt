@@ -5,6 +5,7 @@ ghost use Rattle.mt_base.specs.declared.kinds.Role.{Role as Side};
 ghost use Rattle.mt_base.specs.Trace.{Trace};
 ghost use Rattle.mt_endpoint.specs.Tunnels.{is_attached};
 ghost use Rattle.end_calls.specs.Calls.{Entry, acts};
+ghost use Rattle.endpoint.specs.Laws.{KeepsLaws};
 ghost use Rattle.endpoint.specs.Standing.{EndStands};
 ghost use Rattle.end_pair.specs.Delivered.{Brings, IsDue, WhyNotDelivered};
 ghost use Rattle.end_pair.specs.Given.{Gives};
@@ -37,6 +38,7 @@ fn give<C: Carrier + Drop, P: Post + Drop>(
     ensures given { (t : Trace Entry) → EndStands C.stands C.left C.condition P.stands P.left P.condition end.old side t → is_attached kind (acts side t) ≡ true → IfOk result (λ is_given. Gives C.stands C.left C.condition P.stands P.left P.condition side t kind now is_given end.new traffic.old traffic.new) }
     ensures none { (t : Trace Entry) → EndStands C.stands C.left C.condition P.stands P.left P.condition end.old side t → is_attached kind (acts side t) ≡ false → IfOk result (λ is_given. (is_given ≡ false) × (end.new ≡ end.old) × (traffic.new ≡ traffic.old)) }
     ensures lawful { (t : Trace Entry) × EndStands C.stands C.left C.condition P.stands P.left P.condition end.new side t }
+    ensures laws { KeepsLaws C.law P.law end.old end.new }
 {
     let mut out = [0; 1232];
     let Some(count) = end.wire_out(kind, now, &mut out) else {
@@ -77,6 +79,7 @@ fn bring<C: Carrier + Drop, P: Post + Drop>(
     ensures brought { (role : Side) (t : Trace Entry) → EndStands C.stands C.left C.condition P.stands P.left P.condition end.old role t → IfOk result (λ took. Brings C.stands C.left C.condition P.stands P.left P.condition side number traffic.now role t kind now took end.new) }
     ensures refused { IfErr result (WhyNotDelivered side number traffic.now) }
     ensures unchanged { OnErr result (end.new ≡ end.old) }
+    ensures laws { KeepsLaws C.law P.law end.old end.new }
 {
     match datagram_due(traffic, side, number) {
         Ok(datagram) => Ok(end.wire_in(kind, now, datagram)),
@@ -96,6 +99,7 @@ impl<C: Carrier + Drop, P: Post + Drop> Pair<C, P> {
     ghost use Rattle.link_traffic.specs.Given.{numbered};
     ghost use Rattle.end_pair.specs.Delivered.{Delivers, WhyNotDelivered};
     ghost use Rattle.end_pair.specs.Joined.{PairStands};
+    ghost use Rattle.end_pair.specs.Laws.{PairKeepsLaws};
     ghost use Rattle.end_wires.specs.Wires.{given_on};
 
     /// An end is polled on the link of this kind, at this moment in milliseconds; tells whether it gave a datagram. That
@@ -104,6 +108,7 @@ impl<C: Carrier + Drop, P: Post + Drop> Pair<C, P> {
         requires moment { now < 2 ^ 62 }
         ensures polled { (w : Trace (Side × Entry)) → PairStands C.stands C.left C.condition P.stands P.left P.condition self.old w → is_attached kind (acts side (at side w)) ≡ true → IfOk result (λ is_given. (is_full : Bool) × (out : Option (List ℕ)) × (state : LinkState) × (is_given ≡ is_some out) × PairStands C.stands C.left C.condition P.stands P.left P.condition self.new (w ▷ (side, WireOut kind now is_full out state))) }
         ensures none { (w : Trace (Side × Entry)) → PairStands C.stands C.left C.condition P.stands P.left P.condition self.old w → is_attached kind (acts side (at side w)) ≡ false → IfOk result (λ is_given. (is_given ≡ false) × (self.new ≡ self.old)) }
+        ensures laws { PairKeepsLaws C.law P.law self.old self.new }
     {
         match side {
             Role::Server => match kind {
@@ -155,6 +160,7 @@ impl<C: Carrier + Drop, P: Post + Drop> Pair<C, P> {
         ensures delivered { (w : Trace (Side × Entry)) → PairStands C.stands C.left C.condition P.stands P.left P.condition self.old w → IfOk result (λ took. (v : Trace (Side × Entry)) × Delivers side kind number now took w v × PairStands C.stands C.left C.condition P.stands P.left P.condition self.new v) }
         ensures refused { (w : Trace (Side × Entry)) → PairStands C.stands C.left C.condition P.stands P.left P.condition self.old w → IfErr result (WhyNotDelivered side number (given_on kind w)) }
         ensures unchanged { OnErr result (self.new ≡ self.old) }
+        ensures laws { PairKeepsLaws C.law P.law self.old self.new }
     {
         match side {
             Role::Server => match kind {

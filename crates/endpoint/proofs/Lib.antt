@@ -13,6 +13,7 @@ mod FrameWrites
 mod GoingOn
 mod Idle
 mod Inside
+mod KeepsLaws
 mod Left
 mod LinkStop
 mod Links

@@ -3,6 +3,7 @@ pub mod Attached
 pub mod Handed
 pub mod Idle
 pub mod Kept
+pub mod Laws
 pub mod Messages
 pub mod Polled
 pub mod Posted

@@ -43,6 +43,7 @@ impl<C: Carrier + Drop, P: Post + Drop> Endpoint<C, P> {
     ghost use Rattle.end_session.specs.Known.{refusal_in};
     ghost use Rattle.end_session.specs.OfKind.{tunnel_of};
     ghost use Rattle.endpoint.specs.Attached.{is_closed};
+    ghost use Rattle.endpoint.specs.Laws.{HasLawOf, KeepsLaw};
     ghost use Rattle.endpoint.specs.Standing.{EndStands};
 
     /// The reliable tunnel, which was asked for and not refused, gets its link: one of which nothing was called
@@ -56,6 +57,8 @@ impl<C: Carrier + Drop, P: Post + Drop> Endpoint<C, P> {
         requires empty { (C.left link ≡ []) × (C.load link ≡ 0) }
         requires unclosed { is_closed (C.condition link) ≡ false }
         ensures attached { (role : Role) (t : Trace Entry) → EndStands C.stands C.left C.condition P.stands P.left P.condition self.old role t → (past role t).broken ≡ None → EndStands C.stands C.left C.condition P.stands P.left P.condition self.new role (t ▷ Own (Attaches kinds.Reliable)) }
+        ensures law { (self.old.reader.session).broken ≡ None → HasLawOf C.law link self.new.reliable }
+        ensures other_law { KeepsLaw P.law self.old.lossy self.new.lossy }
         ensures broken { (fault : Broken) → (self.old.reader.session).broken ≡ Some fault → self.new ≡ self.old }
     {
         if self.reader.session.broken().is_some() {
@@ -78,6 +81,8 @@ impl<C: Carrier + Drop, P: Post + Drop> Endpoint<C, P> {
         requires empty { (P.left link ≡ []) × (P.load link ≡ 0) }
         requires unclosed { is_closed (P.condition link) ≡ false }
         ensures attached { (role : Role) (t : Trace Entry) → EndStands C.stands C.left C.condition P.stands P.left P.condition self.old role t → (past role t).broken ≡ None → EndStands C.stands C.left C.condition P.stands P.left P.condition self.new role (t ▷ Own (Attaches kinds.Lossy)) }
+        ensures law { (self.old.reader.session).broken ≡ None → HasLawOf P.law link self.new.lossy }
+        ensures other_law { KeepsLaw C.law self.old.reliable self.new.reliable }
         ensures broken { (fault : Broken) → (self.old.reader.session).broken ≡ Some fault → self.new ≡ self.old }
     {
         if self.reader.session.broken().is_some() {

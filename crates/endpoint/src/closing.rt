@@ -15,6 +15,7 @@ impl<C: Carrier + Drop, P: Post + Drop> Endpoint<C, P> {
     ghost use Rattle.end_calls.specs.Law.{unsent};
     ghost use Rattle.end_calls.specs.Refusing.{why_not_closed};
     ghost use Rattle.endpoint.specs.Attached.{load_in};
+    ghost use Rattle.endpoint.specs.Laws.{KeepsLaws};
     ghost use Rattle.endpoint.specs.Standing.{EndStands};
 
     /// Closes an open channel, and tells the other end (MS-RDPEDYC section 2.2.4), on the main stream or through
@@ -26,6 +27,7 @@ impl<C: Carrier + Drop, P: Post + Drop> Endpoint<C, P> {
         ensures allowed { (role : Role) (t : Trace Entry) → EndStands C.stands C.left C.condition P.stands P.left P.condition self.old role t → OnOk result (why_not_closed (past role t).broken role (acts role t) (record { unsent = length (unsent role t); reliable = load_in C.load self.old.reliable; lossy = load_in P.load self.old.lossy }) id ≡ None) }
         ensures refused { (role : Role) (t : Trace Entry) → EndStands C.stands C.left C.condition P.stands P.left P.condition self.old role t → IfErr result (λ why. why_not_closed (past role t).broken role (acts role t) (record { unsent = length (unsent role t); reliable = load_in C.load self.old.reliable; lossy = load_in P.load self.old.lossy }) id ≡ Some why) }
         ensures unchanged { OnErr result (self.new ≡ self.old) }
+        ensures laws { KeepsLaws C.law P.law self.old self.new }
     {
         let load = load_of(&self.reliable);
         if let Err(why) = self.reader.session.close_channel(id, load) {

@@ -6,6 +6,7 @@ ghost use Rattle.mt_windows.specs.declared.limits.TheConstants.{QUEUE, WINDOW};
 ghost use Rattle.carrier.specs.Entries.{Entry as Called};
 ghost use Rattle.end_calls.specs.Links.{gives_bytes};
 ghost use Rattle.endpoint.specs.Attached.{GaveIf, is_closed, load_in, posts_bytes};
+ghost use Rattle.endpoint.specs.Laws.{KeepsLaw, SameLaw};
 
 use carrier::{Carrier, Post};
 
@@ -15,6 +16,7 @@ pub(crate) fn give_waiting<C: Carrier>(link: &mut C, bytes: &[u8])
     ensures load { is_closed (C.condition link.old) ≡ false → C.load link.old + length bytes.now ≤ QUEUE → C.load link.new ≡ C.load link.old + length bytes.now }
     ensures left { C.left link.new ≡ C.left link.old }
     ensures state { C.condition link.new ≡ C.condition link.old }
+    ensures law { SameLaw C.law link.old link.new }
     ensures none { bytes.now ≡ [] → link.new ≡ link.old }
 {
     if bytes.is_empty() {
@@ -31,6 +33,7 @@ pub(crate) fn post_waiting<P: Post>(link: &mut P, bytes: &[u8])
     ensures load { P.load link.new ≤ P.load link.old + 1 }
     ensures left { P.left link.new ≡ P.left link.old }
     ensures state { P.condition link.new ≡ P.condition link.old }
+    ensures law { SameLaw P.law link.old link.new }
     ensures none { bytes.now ≡ [] → link.new ≡ link.old }
 {
     if bytes.is_empty() {
@@ -41,7 +44,8 @@ pub(crate) fn post_waiting<P: Post>(link: &mut P, bytes: &[u8])
 
 /// Gives bytes to the reliable link, where an end has one.
 pub(crate) fn give_if<C: Carrier>(link: &mut Option<C>, bytes: &[u8])
-    ensures { GaveIf C.stands C.left C.condition C.load bytes.now link.old link.new }
+    ensures gave { GaveIf C.stands C.left C.condition C.load bytes.now link.old link.new }
+    ensures law { KeepsLaw C.law link.old link.new }
 {
     if let Some(link) = link {
         give_waiting(link, bytes);

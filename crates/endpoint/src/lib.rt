@@ -5,7 +5,8 @@
 //! An [`Endpoint`] stands for a list of calls that keeps the law of an end's calls (`EndTrace` of `end_calls`),
 //! and each of its links for the calls that this list makes of it (`specs/Standing.antt`, `specs/Attached.antt`).
 //! That it stands for some list is an invariant of its type. Each call here adds its entry to every list that
-//! the end stood for, or is refused and changes nothing.
+//! the end stood for, or is refused and changes nothing. No call but an attachment changes by which law a link
+//! keeps (`specs/Laws.antt`).
 //!
 //! All calls stand. [`Endpoint::main_in`] reads the main stream; [`Endpoint::wire_in`] pulls and reads what the
 //! reliable link has (`src/pulling.rt`), and takes the parts of the lossy one (`src/parts.rt`), up to a stop

@@ -11,6 +11,7 @@ ghost use Rattle.mt_endpoint.specs.Writing.{tunneled};
 ghost use Rattle.end_calls.specs.Stops.{is_stopped};
 ghost use Rattle.end_calls.specs.Streams.{Past, is_broken, written};
 ghost use Rattle.end_reader.specs.Taking.{OneFrame};
+ghost use Rattle.endpoint.specs.Laws.{KeepsLaw};
 ghost use Rattle.endpoint.specs.MainRead.{AllRead, KeepsRoom, begins_with};
 ghost use Rattle.endpoint.specs.OnWay.{OnWay, Reached, SomeWay};
 
@@ -38,6 +39,7 @@ fn read_frame<C: Carrier + Drop>(
     ensures count { (0 < result) × (result ≤ length bytes.now) }
     ensures frame { (unread sent : List ℕ) (role : Role) (p : Past) (l : Trace Called) (queued : ℕ) → OnWay C.stands C.left C.condition C.load unread sent role p l queued reader.old reliable.old → OneFrame role p bytes.now result }
     ensures main { length ((reader.new).session.outgoing).main + ANSWER * (reader.new).session.owed ≤ length ((reader.old).session.outgoing).main + (2304 + ANSWER * (reader.old).session.owed) }
+    ensures law { KeepsLaw C.law reliable.old reliable.new }
 {
     let count = reader.read_main(bytes);
     if let Some(link) = reliable {
@@ -80,6 +82,7 @@ fn read_all<C: Carrier + Drop>(reader: &mut Reader, reliable: &mut Option<C>, by
     requires lawful { SomeWay C.stands C.left C.condition C.load reader.old reliable.old }
     ensures read { (unread sent : List ℕ) (role : Role) (p : Past) (l : Trace Called) (queued : ℕ) → OnWay C.stands C.left C.condition C.load unread sent role p l queued reader.old reliable.old → AllRead C.stands C.left C.condition C.load unread sent role p l queued bytes.now result reader.new reliable.new }
     ensures room { KeepsRoom (reader.old).session (reader.new).session }
+    ensures law { KeepsLaw C.law reliable.old reliable.new }
     ensures bound { result ≤ length bytes.now }
 {
     let mut taken = 0;
@@ -99,6 +102,7 @@ impl<C: Carrier + Drop, P: Post + Drop> Endpoint<C, P> {
     ghost use Rattle.mt_endpoint.specs.Acts.{Act};
     ghost use Rattle.end_calls.specs.Calls.{Entry, MainIn};
     ghost use Rattle.endpoint.specs.Attached.{load_in};
+    ghost use Rattle.endpoint.specs.Laws.{KeepsLaws};
     ghost use Rattle.endpoint.specs.Standing.{EndStands};
 
     /// Reads bytes of the main stream (MS-RDPBCGR section 2.2.15, MS-RDPEDYC section 2.2), cut anywhere, and gives
@@ -110,6 +114,7 @@ impl<C: Carrier + Drop, P: Post + Drop> Endpoint<C, P> {
     pub fn main_in(&mut self, bytes: &[u8]) -> usize
         ensures bound { result ≤ length bytes.now }
         ensures reads { (role : Role) (t : Trace Entry) → EndStands C.stands C.left C.condition P.stands P.left P.condition self.old role t → (lack : Option (ℕ × Trace Act)) × EndStands C.stands C.left C.condition P.stands P.left P.condition self.new role (t ▷ MainIn bytes.now result (load_in C.load self.old.reliable) lack) }
+        ensures laws { KeepsLaws C.law P.law self.old self.new }
     {
         read_all(&mut self.reader, &mut self.reliable, bytes)
     }

@@ -8,6 +8,7 @@ ghost use Rattle.end_calls.specs.declared.limits.TheConstants.{ANSWER, CONTROL, 
 ghost use Rattle.end_calls.specs.Stops.{Outset};
 ghost use Rattle.end_calls.specs.Streams.{Past};
 ghost use Rattle.endpoint.specs.Handed.{AllHanded, LoadAt, OnePart, PartWay, SomePart};
+ghost use Rattle.endpoint.specs.Laws.{SameLaw};
 ghost use Rattle.endpoint.specs.MainRead.{KeepsRoom};
 
 use crate::giving::post_waiting;
@@ -28,6 +29,7 @@ fn take_part<P: Post + Drop>(reader: &mut Reader, link: &mut P) -> bool
     ensures stays { result ≡ false → P.load link.new ≡ P.load link.old }
     ensures less { result ≡ true → length (P.left link.new) < length (P.left link.old) }
     ensures main { length ((reader.new).session.outgoing).main + ANSWER * (reader.new).session.owed ≤ length ((reader.old).session.outgoing).main + (2304 + ANSWER * (reader.old).session.owed) }
+    ensures law { SameLaw P.law link.old link.new }
 {
     let is_full = is_full(link);
     let mut part = [0; 1232];
@@ -46,6 +48,7 @@ pub(crate) fn take_parts<P: Post + Drop>(reader: &mut Reader, link: &mut P, load
     requires lawful { SomePart P.stands P.left P.condition reader.old link.old }
     ensures handed { (unhanded : List (List ℕ)) (sent : List ℕ) (role : Role) (outset : Outset) (p : Past) (m : Trace Called) → PartWay P.stands P.left P.condition unhanded sent role p m reader.old link.old → LoadAt role outset sent p load → AllHanded P.stands P.left P.condition P.load link.old unhanded sent role outset p m reader.new link.new }
     ensures room { KeepsRoom (reader.old).session (reader.new).session }
+    ensures law { SameLaw P.law link.old link.new }
 {
     let mut has_part = true;
     while has_part && !is_link_stopped(&reader.session, load) {

@@ -16,6 +16,7 @@ impl<C: Carrier + Drop, P: Post + Drop> Endpoint<C, P> {
     ghost use Rattle.mt_endpoint.specs.Tunnels.{is_attached};
     ghost use Rattle.endpoint.specs.Polled.{is_full_at, state_in};
     ghost use Rattle.endpoint.specs.Posted.{is_full_in};
+    ghost use Rattle.endpoint.specs.Laws.{KeepsLaws};
     ghost use Rattle.endpoint.specs.Standing.{EndStands};
 
     /// Writes the datagram that is due at this moment on the reliable link to the front of `out`, and gives its
@@ -27,6 +28,7 @@ impl<C: Carrier + Drop, P: Post + Drop> Endpoint<C, P> {
         ensures none { IfNone self.old.reliable ((result ≡ None) × (self.new ≡ self.old)) }
         ensures bound { IfSome result (λ n. n ≤ 1232) }
         ensures rest { drop (written result) out.new ≡ drop (written result) out.old }
+        ensures laws { KeepsLaws C.law P.law self.old self.new }
     {
         let Some(link) = &mut self.reliable else {
             return None;
@@ -47,6 +49,7 @@ impl<C: Carrier + Drop, P: Post + Drop> Endpoint<C, P> {
         ensures none { IfNone self.old.lossy ((result ≡ None) × (self.new ≡ self.old)) }
         ensures bound { IfSome result (λ n. n ≤ 1232) }
         ensures rest { drop (written result) out.new ≡ drop (written result) out.old }
+        ensures laws { KeepsLaws C.law P.law self.old self.new }
     {
         let Some(link) = &mut self.lossy else {
             return None;
@@ -79,6 +82,7 @@ impl<C: Carrier + Drop, P: Post + Drop> Endpoint<C, P> {
         ensures none { (role : Role) (t : Trace Entry) → EndStands C.stands C.left C.condition P.stands P.left P.condition self.old role t → is_attached link (acts role t) ≡ false → (result ≡ None) × (self.new ≡ self.old) }
         ensures bound { IfSome result (λ n. n ≤ 1232) }
         ensures rest { drop (written result) out.new ≡ drop (written result) out.old }
+        ensures laws { KeepsLaws C.law P.law self.old self.new }
     {
         match link {
             Kind::Reliable => self.poll_reliable(now, out),

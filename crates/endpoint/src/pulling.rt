@@ -8,6 +8,7 @@ ghost use Rattle.carrier.specs.Entries.{Entry as Called, Pulled};
 ghost use Rattle.end_calls.specs.declared.limits.TheConstants.{ANSWER, CONTROL, MAIN_QUEUE};
 ghost use Rattle.end_calls.specs.Streams.{Past};
 ghost use Rattle.end_session.specs.Drawing.{IsHeldBeside};
+ghost use Rattle.endpoint.specs.Laws.{SameLaw};
 ghost use Rattle.endpoint.specs.MainRead.{KeepsRoom};
 ghost use Rattle.endpoint.specs.OnWay.{OnWay, SomeWay};
 ghost use Rattle.endpoint.specs.Pulled.{AllPulled, OnePull};
@@ -30,6 +31,7 @@ fn next_bytes<C: Carrier>(link: &mut C, wanted: usize, buffer: &mut [u8; 1855]) 
     ensures trace { (t : Trace Called) → C.stands link.old t → C.stands link.new (t ▷ Pulled wanted (take result buffer.new)) }
     ensures load { C.load link.new ≡ C.load link.old }
     ensures state { C.condition link.new ≡ C.condition link.old }
+    ensures law { SameLaw C.law link.old link.new }
 {
     link.pull(&mut buffer[..wanted])
 }
@@ -46,6 +48,7 @@ fn pull_one<C: Carrier + Drop>(reader: &mut Reader, link: &mut C) -> bool
     ensures no_more { length (C.left link.new) ≤ length (C.left link.old) }
     ensures less { result ≡ true → length (C.left link.new) < length (C.left link.old) }
     ensures main { length ((reader.new).session.outgoing).main + ANSWER * (reader.new).session.owed ≤ length ((reader.old).session.outgoing).main + (2304 + ANSWER * (reader.old).session.owed) }
+    ensures law { SameLaw C.law link.old link.new }
 {
     let wanted = reader.wanted();
     let mut buffer = [0; LONGEST];
@@ -61,6 +64,7 @@ pub(crate) fn pull_all<C: Carrier + Drop>(reader: &mut Reader, link: &mut C)
     requires lawful { SomeWay C.stands C.left C.condition C.load reader.old (Some link.old) }
     ensures pulled { (unread sent : List ℕ) (role : Role) (p : Past) (l : Trace Called) (queued : ℕ) → OnWay C.stands C.left C.condition C.load unread sent role p l queued reader.old (Some link.old) → AllPulled C.stands C.left C.condition C.load unread sent role p l queued reader.new link.new }
     ensures room { KeepsRoom (reader.old).session (reader.new).session }
+    ensures law { SameLaw C.law link.old link.new }
 {
     let mut is_whole = true;
     while is_whole && !is_link_stopped(&reader.session, link.queued()) {

@@ -28,7 +28,8 @@ impl<C: Carrier + Drop, P: Post + Drop> Endpoint<C, P> {
     /// Whether the end goes on. One that is broken reads nothing more, refuses its calls, and still hands out
     /// the messages that it has.
     pub fn state(&self) -> EndState
-        ensures { (role : Role) (t : Trace Entry) → EndStands C.stands C.left C.condition P.stands P.left P.condition self.now role t → result ≡ end_state (past role t).broken }
+        ensures value { result ≡ end_state (self.now.reader.session).broken }
+        ensures acts { (role : Role) (t : Trace Entry) → EndStands C.stands C.left C.condition P.stands P.left P.condition self.now role t → result ≡ end_state (past role t).broken }
     {
         match self.reader.session.broken() {
             None => EndState::Fine,

@@ -14,6 +14,7 @@ impl<C: Carrier + Drop, P: Post + Drop> Endpoint<C, P> {
     ghost use Rattle.end_calls.specs.Calls.{Entry, Own, past};
     ghost use Rattle.end_session.specs.Known.{refusal_in};
     ghost use Rattle.end_session.specs.OfKind.{tunnel_of};
+    ghost use Rattle.endpoint.specs.Laws.{KeepsLaws};
     ghost use Rattle.endpoint.specs.Standing.{EndStands};
 
     /// A client refuses the tunnel of this kind, which the server asked for and which has no link, with a code
@@ -27,6 +28,7 @@ impl<C: Carrier + Drop, P: Post + Drop> Endpoint<C, P> {
         requires code { 1 ≤ hr }
         ensures refused { (role : Role) (t : Trace Entry) → EndStands C.stands C.left C.condition P.stands P.left P.condition self.old role t → (past role t).broken ≡ None → EndStands C.stands C.left C.condition P.stands P.left P.condition self.new role (t ▷ Own (Refuses kind hr)) }
         ensures broken { (fault : Broken) → (self.old.reader.session).broken ≡ Some fault → self.new ≡ self.old }
+        ensures laws { KeepsLaws C.law P.law self.old self.new }
     {
         if self.reader.session.broken().is_some() {
             return;

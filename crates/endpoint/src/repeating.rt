@@ -11,6 +11,7 @@ ghost use Rattle.end_calls.specs.Streams.{Past};
 ghost use Rattle.end_session.specs.Outgoing.{waiting_for};
 ghost use Rattle.end_session.specs.Standing.{Gone, Stands};
 ghost use Rattle.endpoint.specs.Idle.{IsIdle, IsPaused};
+ghost use Rattle.endpoint.specs.Laws.{SameLaw};
 ghost use Rattle.endpoint.specs.Posted.{IsAsking, IsReady, Posts};
 
 use crate::giving::post_waiting;
@@ -63,6 +64,7 @@ fn repeat<P: Post>(session: &mut Session, link: &mut P, is_full: bool)
     requires paused { IsPaused session.old }
     ensures posted { (role : End) (p : Past) (gone : Gone) → IsIdle role p gone session.old → IsReady P.condition P.load is_full p link.old → Posts P.stands role p (steps role (Repeats is_full) p) gone session.new link.old link.new }
     ensures left { P.left link.new ≡ P.left link.old }
+    ensures law { SameLaw P.law link.old link.new }
 {
     if session.broken().is_some() {
         return;
@@ -82,6 +84,7 @@ fn ask_or_give_up<P: Post>(session: &mut Session, link: &mut P, postings: &Posti
     requires paused { IsPaused session.old }
     ensures posted { (role : End) (p : Past) (gone : Gone) → IsIdle role p gone session.old → IsReady P.condition P.load is_full p link.old → Posts P.stands role p (steps role (posts_again postings.now is_full) p) gone session.new link.old link.new }
     ensures left { P.left link.new ≡ P.left link.old }
+    ensures law { SameLaw P.law link.old link.new }
 {
     if postings.is_last() {
         fall_silent(session, Kind::Lossy, 17);
@@ -102,6 +105,7 @@ pub(crate) fn before_poll<P: Post>(
     requires paused { IsPaused session.old }
     ensures posted { (role : End) (p : Past) (gone : Gone) → IsIdle role p gone session.old → IsReady P.condition P.load is_full p link.old → Posts P.stands role p (if_steps role (if is_due then Some (posts_again postings.now is_full) else None) p) gone session.new link.old link.new }
     ensures left { P.left link.new ≡ P.left link.old }
+    ensures law { SameLaw P.law link.old link.new }
 {
     if is_due {
         ask_or_give_up(session, link, postings, is_full);

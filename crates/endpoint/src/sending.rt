@@ -10,6 +10,7 @@ ghost use Rattle.tunnel_pdus.specs.Value.{Data, pdu_fields};
 ghost use Rattle.mt_endpoint.specs.Writing.{tunneled};
 ghost use Rattle.end_session.specs.MessageGiven.{carrying};
 ghost use Rattle.endpoint.specs.Attached.{load_in};
+ghost use Rattle.endpoint.specs.Laws.{KeepsLaw, SameLaw};
 ghost use Rattle.endpoint.specs.Messages.{TookEach, TookIf, through};
 
 use crate::endpoint::Endpoint;
@@ -55,7 +56,8 @@ fn wrap_fragment(id: u32, message: &[u8], k: u32, out: &mut [u8; TUNNELED]) -> u
 /// Gives the PDUs of a message to a reliable link. One that isn't closed and has room takes them.
 fn give_message<C: Carrier>(link: &mut C, id: u32, message: &[u8])
     requires { length message.now ≤ 1048576 }
-    ensures { TookEach kinds.Reliable C.stands C.left C.condition C.load (map carrying (fragments_of id message.now)) link.old link.new }
+    ensures took { TookEach kinds.Reliable C.stands C.left C.condition C.load (map carrying (fragments_of id message.now)) link.old link.new }
+    ensures law { SameLaw C.law link.old link.new }
 {
     let mut part = [0; TUNNELED];
     for k in 0..fragments(id, message.len() as u32) {
@@ -67,7 +69,8 @@ fn give_message<C: Carrier>(link: &mut C, id: u32, message: &[u8])
 /// Posts a message, which has one PDU, on a lossy link. One that isn't closed and has room takes it.
 fn post_message<P: Post>(link: &mut P, id: u32, message: &[u8])
     requires { length message.now ≤ 990 }
-    ensures { TookEach kinds.Lossy P.stands P.left P.condition P.load (map carrying (fragments_of id message.now)) link.old link.new }
+    ensures took { TookEach kinds.Lossy P.stands P.left P.condition P.load (map carrying (fragments_of id message.now)) link.old link.new }
+    ensures law { SameLaw P.law link.old link.new }
 {
     let mut part = [0; TUNNELED];
     let count = wrap_fragment(id, message, 0, &mut part);
@@ -77,7 +80,8 @@ fn post_message<P: Post>(link: &mut P, id: u32, message: &[u8])
 /// Gives the PDUs of a message to the reliable link, where an end has one.
 fn give_message_if<C: Carrier>(link: &mut Option<C>, id: u32, message: &[u8])
     requires { length message.now ≤ 1048576 }
-    ensures { TookIf kinds.Reliable C.stands C.left C.condition C.load (map carrying (fragments_of id message.now)) link.old link.new }
+    ensures took { TookIf kinds.Reliable C.stands C.left C.condition C.load (map carrying (fragments_of id message.now)) link.old link.new }
+    ensures law { KeepsLaw C.law link.old link.new }
 {
     if let Some(link) = link {
         give_message(link, id, message);
@@ -87,7 +91,8 @@ fn give_message_if<C: Carrier>(link: &mut Option<C>, id: u32, message: &[u8])
 /// Posts a message, which has one PDU, on the lossy link, where an end has one.
 fn post_message_if<P: Post>(link: &mut Option<P>, id: u32, message: &[u8])
     requires { length message.now ≤ 990 }
-    ensures { TookIf kinds.Lossy P.stands P.left P.condition P.load (map carrying (fragments_of id message.now)) link.old link.new }
+    ensures took { TookIf kinds.Lossy P.stands P.left P.condition P.load (map carrying (fragments_of id message.now)) link.old link.new }
+    ensures law { KeepsLaw P.law link.old link.new }
 {
     if let Some(link) = link {
         post_message(link, id, message);
@@ -106,6 +111,8 @@ fn carry<C: Carrier, P: Post>(
     requires part { path ≡ Tunnel kinds.Lossy → length message.now ≤ 990 }
     ensures reliable { TookIf kinds.Reliable C.stands C.left C.condition C.load (through kinds.Reliable path (fragments_of id message.now)) reliable.old reliable.new }
     ensures lossy { TookIf kinds.Lossy P.stands P.left P.condition P.load (through kinds.Lossy path (fragments_of id message.now)) lossy.old lossy.new }
+    ensures reliable_law { KeepsLaw C.law reliable.old reliable.new }
+    ensures lossy_law { KeepsLaw P.law lossy.old lossy.new }
 {
     match path {
         Path::Main => {}
@@ -135,6 +142,7 @@ impl<C: Carrier + Drop, P: Post + Drop> Endpoint<C, P> {
     ghost use Rattle.end_calls.specs.Law.{unsent};
     ghost use Rattle.end_calls.specs.Refusing.{why_not_sent};
     ghost use Rattle.endpoint.specs.Attached.{load_in};
+    ghost use Rattle.endpoint.specs.Laws.{KeepsLaws};
     ghost use Rattle.endpoint.specs.Standing.{EndStands};
 
     /// Sends a message on an open channel (MS-RDPEDYC section 3.1.5.1.4), by its path: on the main stream, or
@@ -145,6 +153,7 @@ impl<C: Carrier + Drop, P: Post + Drop> Endpoint<C, P> {
         ensures allowed { (role : Role) (t : Trace Entry) → EndStands C.stands C.left C.condition P.stands P.left P.condition self.old role t → OnOk result (why_not_sent (past role t).broken role (acts role t) (record { unsent = length (unsent role t); reliable = load_in C.load self.old.reliable; lossy = load_in P.load self.old.lossy }) id message.now ≡ None) }
         ensures refused { (role : Role) (t : Trace Entry) → EndStands C.stands C.left C.condition P.stands P.left P.condition self.old role t → IfErr result (λ why. why_not_sent (past role t).broken role (acts role t) (record { unsent = length (unsent role t); reliable = load_in C.load self.old.reliable; lossy = load_in P.load self.old.lossy }) id message.now ≡ Some why) }
         ensures unchanged { OnErr result (self.new ≡ self.old) }
+        ensures laws { KeepsLaws C.law P.law self.old self.new }
     {
         let load = load_of(&self.reliable);
         let parts = parts_of(&self.lossy);

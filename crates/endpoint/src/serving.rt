@@ -15,6 +15,7 @@ impl<C: Carrier + Drop, P: Post + Drop> Endpoint<C, P> {
     ghost use Rattle.end_calls.specs.Law.{unsent};
     ghost use Rattle.end_calls.specs.Refusing.{next_id, why_not_asked, why_not_moved, why_not_opened};
     ghost use Rattle.end_session.specs.Causes.{IsOpenCause};
+    ghost use Rattle.endpoint.specs.Laws.{KeepsLaws};
     ghost use Rattle.endpoint.specs.Standing.{EndStands};
 
     /// A server creates a channel (MS-RDPEDYC section 2.2.2.1), and gives its id: 1, 2, 3 and so on. The
@@ -25,6 +26,7 @@ impl<C: Carrier + Drop, P: Post + Drop> Endpoint<C, P> {
         ensures allowed { (role : Role) (t : Trace Entry) → EndStands C.stands C.left C.condition P.stands P.left P.condition self.old role t → OnOk result (why_not_opened (past role t).broken (acts role t) (length (unsent role t)) name.now ≡ None) }
         ensures refused { (role : Role) (t : Trace Entry) → EndStands C.stands C.left C.condition P.stands P.left P.condition self.old role t → IfErr result (λ why. IsOpenCause (why_not_opened (past role t).broken (acts role t) (length (unsent role t)) name.now) why) }
         ensures unchanged { OnErr result (self.new ≡ self.old) }
+        ensures laws { KeepsLaws C.law P.law self.old self.new }
     {
         self.reader.session.open_channel(name)
     }
@@ -37,6 +39,7 @@ impl<C: Carrier + Drop, P: Post + Drop> Endpoint<C, P> {
         ensures allowed { (role : Role) (t : Trace Entry) → EndStands C.stands C.left C.condition P.stands P.left P.condition self.old role t → OnOk result (why_not_asked (past role t).broken (acts role t) (length (unsent role t)) kind id cookie.now ≡ None) }
         ensures refused { (role : Role) (t : Trace Entry) → EndStands C.stands C.left C.condition P.stands P.left P.condition self.old role t → IfErr result (λ why. why_not_asked (past role t).broken (acts role t) (length (unsent role t)) kind id cookie.now ≡ Some why) }
         ensures unchanged { OnErr result (self.new ≡ self.old) }
+        ensures laws { KeepsLaws C.law P.law self.old self.new }
     {
         self.reader.session.ask_tunnel(kind, id, cookie)
     }
@@ -50,6 +53,7 @@ impl<C: Carrier + Drop, P: Post + Drop> Endpoint<C, P> {
         ensures allowed { (role : Role) (t : Trace Entry) → EndStands C.stands C.left C.condition P.stands P.left P.condition self.old role t → OnOk result (why_not_moved (past role t).broken (acts role t) (length (unsent role t)) reliable.now lossy.now ≡ None) }
         ensures refused { (role : Role) (t : Trace Entry) → EndStands C.stands C.left C.condition P.stands P.left P.condition self.old role t → IfErr result (λ why. why_not_moved (past role t).broken (acts role t) (length (unsent role t)) reliable.now lossy.now ≡ Some why) }
         ensures unchanged { OnErr result (self.new ≡ self.old) }
+        ensures laws { KeepsLaws C.law P.law self.old self.new }
     {
         self.reader.session.soft_sync(reliable, lossy)
     }

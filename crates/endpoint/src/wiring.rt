@@ -2,6 +2,7 @@
 
 ghost use Rattle.std.specs.Prelude.{IfSome};
 ghost use Rattle.endpoint.specs.Handed.{SomePart};
+ghost use Rattle.endpoint.specs.Laws.{KeepsLaw};
 ghost use Rattle.endpoint.specs.MainRead.{KeepsRoom};
 ghost use Rattle.endpoint.specs.WiredIn.{HandedIf};
 
@@ -18,6 +19,7 @@ fn take_if<P: Post + Drop>(reader: &mut Reader, lossy: &mut Option<P>, load: usi
     requires lawful { IfSome lossy.old (λ link. SomePart P.stands P.left P.condition reader.old link) }
     ensures handed { HandedIf P.stands P.left P.condition P.load load reader.old reader.new lossy.old lossy.new }
     ensures room { KeepsRoom (reader.old).session (reader.new).session }
+    ensures law { KeepsLaw P.law lossy.old lossy.new }
 {
     if let Some(link) = lossy {
         take_parts(reader, link, load);
@@ -33,6 +35,7 @@ impl<C: Carrier + Drop, P: Post + Drop> Endpoint<C, P> {
     ghost use Rattle.carrier.specs.declared.state.Reason.TheVariants as reason;
     ghost use Rattle.mt_endpoint.specs.Tunnels.{is_attached};
     ghost use Rattle.end_calls.specs.Calls.{Entry, acts};
+    ghost use Rattle.endpoint.specs.Laws.{KeepsLaws};
     ghost use Rattle.endpoint.specs.Standing.{EndStands};
     ghost use Rattle.endpoint.specs.WiredIn.{WiredIn};
 
@@ -41,6 +44,7 @@ impl<C: Carrier + Drop, P: Post + Drop> Endpoint<C, P> {
         requires moment { now < 2 ^ 62 }
         ensures read { (role : Role) (t : Trace Entry) → EndStands C.stands C.left C.condition P.stands P.left P.condition self.old role t → WiredIn C.stands C.left C.condition C.load P.stands P.left P.condition P.load role t kinds.Reliable now datagram.now result self.old self.new }
         ensures none { (role : Role) (t : Trace Entry) → EndStands C.stands C.left C.condition P.stands P.left P.condition self.old role t → is_attached kinds.Reliable (acts role t) ≡ false → (result ≡ Ignored reason.NotOpen) × (self.new ≡ self.old) }
+        ensures laws { KeepsLaws C.law P.law self.old self.new }
     {
         let Some(link) = &mut self.reliable else {
             return Took::Ignored(Reason::NotOpen);
@@ -58,6 +62,7 @@ impl<C: Carrier + Drop, P: Post + Drop> Endpoint<C, P> {
         requires moment { now < 2 ^ 62 }
         ensures read { (role : Role) (t : Trace Entry) → EndStands C.stands C.left C.condition P.stands P.left P.condition self.old role t → WiredIn C.stands C.left C.condition C.load P.stands P.left P.condition P.load role t kinds.Lossy now datagram.now result self.old self.new }
         ensures none { (role : Role) (t : Trace Entry) → EndStands C.stands C.left C.condition P.stands P.left P.condition self.old role t → is_attached kinds.Lossy (acts role t) ≡ false → (result ≡ Ignored reason.NotOpen) × (self.new ≡ self.old) }
+        ensures laws { KeepsLaws C.law P.law self.old self.new }
     {
         let Some(link) = &mut self.lossy else {
             return Took::Ignored(Reason::NotOpen);
@@ -79,6 +84,7 @@ impl<C: Carrier + Drop, P: Post + Drop> Endpoint<C, P> {
         requires moment { now < 2 ^ 62 }
         ensures read { (role : Role) (t : Trace Entry) → EndStands C.stands C.left C.condition P.stands P.left P.condition self.old role t → WiredIn C.stands C.left C.condition C.load P.stands P.left P.condition P.load role t link now datagram.now result self.old self.new }
         ensures none { (role : Role) (t : Trace Entry) → EndStands C.stands C.left C.condition P.stands P.left P.condition self.old role t → is_attached link (acts role t) ≡ false → (result ≡ Ignored reason.NotOpen) × (self.new ≡ self.old) }
+        ensures laws { KeepsLaws C.law P.law self.old self.new }
     {
         match link {
             Kind::Reliable => self.wire_reliable(now, datagram),

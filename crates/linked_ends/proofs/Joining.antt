@@ -23,17 +23,17 @@ use Rattle.end_net.specs.Network.{Network, steps}
 use Rattle.end_net.proofs.Halves.{half_at}
 use Rattle.end_pair.specs.declared.pair.TheConstants.{LATE}
 use Rattle.end_pair.specs.Joined.{Joined, PairStands, end_of}
-use Rattle.linked_ends.specs.UsesLinks.{UsesLinks, parts_left}
+use Rattle.linked_ends.specs.UsesLinks.{KeepsTo, KeepsToLossy, UsesLinks, parts_left}
 
 -- ---- a link that an end may have
 
-faithful_of : (settings : OpenSettings) (role : Role) (t : Trace Entry) (unread : List ℕ) (l : Option Link) → HasLink StandsLink left_in condition_in Reliable unread role t l → IfSome l (λ x. (x.opening).settings ≡ settings) → LinkFaithful settings (linked Reliable role t)
-faithful_of settings role t unread None h made = subst (λ x. LinkFaithful settings x) (sym h.uncalled) tt
-faithful_of settings role t unread (Some l) h made = subst (λ x. LinkFaithful x (linked Reliable role t)) made h.called.faithful
+faithful_of : (settings : OpenSettings) (role : Role) (t : Trace Entry) (unread : List ℕ) (l : Option Link) → HasLink StandsLink left_in condition_in Reliable unread role t l → IfSome l (KeepsTo settings) → LinkFaithful settings (linked Reliable role t)
+faithful_of settings role t unread None h keeps = subst (λ x. LinkFaithful settings x) (sym h.uncalled) tt
+faithful_of settings role t unread (Some l) h keeps = keeps (linked Reliable role t) h.called.faithful
 
-thin_of : (settings : OpenSettings) (role : Role) (t : Trace Entry) (unread : List (List ℕ)) (l : Option lossy.Lossy) → HasLink StandsThin parts_left condition_of Lossy unread role t l → IfSome l (λ x. (x.opening).settings ≡ settings) → Thin settings (linked Lossy role t)
-thin_of settings role t unread None h made = subst (λ x. Thin settings x) (sym h.uncalled) tt
-thin_of settings role t unread (Some l) h made = subst (λ x. Thin x (linked Lossy role t)) made h.called.thin
+thin_of : (settings : OpenSettings) (role : Role) (t : Trace Entry) (unread : List (List ℕ)) (l : Option lossy.Lossy) → HasLink StandsThin parts_left condition_of Lossy unread role t l → IfSome l (KeepsToLossy settings) → Thin settings (linked Lossy role t)
+thin_of settings role t unread None h keeps = subst (λ x. Thin settings x) (sym h.uncalled) tt
+thin_of settings role t unread (Some l) h keeps = keeps (linked Lossy role t) h.called.thin
 
 -- ---- the versions
 
@@ -61,24 +61,24 @@ network_of pair settings w p u timely = record {
   ends = λ role. (p.ends role).tells.law;
   main = p.main;
   reliable = record {
-    roles = u.roles Reliable;
-    kinds = u.reliable_kind;
-    versions = u.reliable_version;
-    initials = u.initials Reliable;
-    hashes = u.hashes;
-    in_time = fits (settings Reliable Server).version (settings Reliable Client).version (u.reliable_version Server) (u.reliable_version Client);
+    roles = u.suit.roles Reliable;
+    kinds = u.suit.reliable_kind;
+    versions = u.suit.reliable_version;
+    initials = u.suit.initials Reliable;
+    hashes = u.suit.hashes;
+    in_time = fits (settings Reliable Server).version (settings Reliable Client).version (u.suit.reliable_version Server) (u.suit.reliable_version Client);
     faithful = λ s. subst (λ x. LinkFaithful (settings Reliable s) x) (sym (half_at Reliable w s))
-        (faithful_of (settings Reliable s) s (at s w) (unpulled (at s w)) (end_of s pair).reliable (p.ends s).has_reliable (u.reliable_made s));
+        (faithful_of (settings Reliable s) s (at s w) (unpulled (at s w)) (end_of s pair).reliable (p.ends s).has_reliable (u.reliable_keeps s));
     timely = timely Reliable;
   };
   lossy = record {
-    roles = u.roles Lossy;
-    kind = u.lossy_kind;
-    versions = u.lossy_version;
-    initials = u.initials Lossy;
+    roles = u.suit.roles Lossy;
+    kind = u.suit.lossy_kind;
+    versions = u.suit.lossy_version;
+    initials = u.suit.initials Lossy;
     in_time = omega arith;
     thin = λ s. subst (λ x. Thin (settings Lossy s) x) (sym (half_at Lossy w s))
-        (thin_of (settings Lossy s) s (at s w) (unhanded (at s w)) (end_of s pair).lossy (p.ends s).has_lossy (u.lossy_made s));
+        (thin_of (settings Lossy s) s (at s w) (unhanded (at s w)) (end_of s pair).lossy (p.ends s).has_lossy (u.lossy_keeps s));
     timely = timely Lossy;
   };
 }

@@ -1,4 +1,5 @@
 mod Quiet
+mod Staying
 mod Stepwise
 mod Coming
 mod Joining

@@ -21,5 +21,5 @@ returns-clause-handed g c role t e =
     handed_out _ _ _ _ _ _ c.pour.new.from role t c.args.limit c.args.under_way.now.items _ c.pour.new.out c.bytes_needed-more.result _
     (more ∙ ap (λ n. needed c.args.limit n c.main_queued.result) long ∙ ap (λ n. needed c.args.limit (length c.args.under_way.now.items) n) waiting) enough
     (behind_long c.len-kept.result c.bytes_needed-more.result c.args.under_way.now.items c.deref_mut.result.now long filled)
-    (c.pour.ensures role t e)
+    (c.pour.ensures.poured role t e)
     (λ size. replaced c.resize.new.self.len c.len-kept.result c.bytes_needed-more.result c.args.under_way.now.items c.deref_mut.result.now c.pour.new.out c.resize.new.self.items long filled size c.in_ok-resize.ensures.len)

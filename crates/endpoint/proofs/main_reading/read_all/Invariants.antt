@@ -3,6 +3,7 @@ use Rattle.mt_base.specs.declared.kinds.Role.{Role}
 use Rattle.mt_base.specs.Trace.{Trace}
 use Rattle.carrier.specs.Entries.{Entry as Called}
 use Rattle.end_calls.specs.Streams.{Past}
+use Rattle.endpoint.specs.Laws.{KeepsLaw}
 use Rattle.endpoint.specs.MainRead.{KeepsRoom}
 use Rattle.endpoint.specs.OnWay.{OnWay, SomeWay}
 use Rattle.endpoint.proofs.Ahead.{Going}
@@ -14,6 +15,7 @@ invariant-loop-taken g l = record {
   within : l.taken ≤ length l.bytes;
   lawful : SomeWay g.C.Carrier.stands g.C.Carrier.left g.C.Carrier.condition g.C.Carrier.load l.reader l.reliable;
   room : KeepsRoom l.initial.reader.session l.reader.session;
+  law : KeepsLaw g.C.Carrier.law l.initial.reliable l.reliable;
   going : (unread sent : List ℕ) (role : Role) (p : Past) (t : Trace Called) (queued : ℕ) → OnWay g.C.Carrier.stands g.C.Carrier.left g.C.Carrier.condition g.C.Carrier.load unread sent role p t queued l.initial.reader l.initial.reliable
       → Going g.C.Carrier.stands g.C.Carrier.left g.C.Carrier.condition g.C.Carrier.load unread sent role p t queued l.bytes l.taken l.reader l.reliable;
 }

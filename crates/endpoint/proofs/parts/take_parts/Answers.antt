@@ -1,4 +1,5 @@
 use Rattle.std.proofs.Common.{inl, inr, sym, subst, ◌∙◌, arith}
+use Rattle.endpoint.proofs.KeepsLaws.{law_then, same_law}
 use Rattle.endpoint.proofs.PartsOn.{Going, ends_empty, ends_stopped, going_first, some_on, turns}
 use Rattle.endpoint.proofs.parts.take_parts.Goals as goal
 
@@ -6,6 +7,7 @@ pub loop-has_part-init : goal.loop-has_part-init
 loop-has_part-init g c = record {
   lawful = c.requires.lawful;
   room = inl (omega arith);
+  law = same_law g.P.Post.law c.args.link.now;
   going = λ unhanded sent role outset p m way at. going_first _ _ _ g.P.Post.load unhanded sent role outset p m c.args.reader.now c.args.link.now way;
 }
 
@@ -22,6 +24,7 @@ loop-has_part-preserved g c =
     let has_part = c.take_part-has_part.result in record {
       lawful = some_on g.P.Post.stands g.P.Post.left g.P.Post.condition g.P.Post.load r now l d has_part before.lawful did.taken did.none;
       room = inr (omega (arith, s.room goes, did.main));
+      law = law_then g.P.Post.law c.args.link.now l d before.law did.law;
       going = λ unhanded sent role outset p m way at.
           turns g.P.Post.stands g.P.Post.left g.P.Post.condition g.P.Post.load c.args.link.now unhanded sent role outset p m r now l d c.args.load has_part
           (subst (λ b. Going g.P.Post.stands g.P.Post.left g.P.Post.condition g.P.Post.load c.args.link.now unhanded sent role outset p m b r l) c.loop-has_part-test.true (before.going unhanded sent role outset p m way at)) at (s.whole goes)

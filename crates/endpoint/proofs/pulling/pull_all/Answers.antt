@@ -1,4 +1,5 @@
 use Rattle.std.proofs.Common.{inl, inr, sym, ◌∙◌, arith}
+use Rattle.endpoint.proofs.KeepsLaws.{law_then, same_law}
 use Rattle.endpoint.proofs.PullsOn.{ended_short, ended_stopped, fewer, pulling_first, pulling_on, stopped_at}
 use Rattle.endpoint.proofs.pulling.pull_all.Goals as goal
 
@@ -6,6 +7,7 @@ pub loop-is_whole-init : goal.loop-is_whole-init
 loop-is_whole-init g c = record {
   lawful = c.requires.lawful;
   room = inl (omega arith);
+  law = same_law g.C.Carrier.law c.args.link.now;
   pulling = λ unread sent role p t queued way. pulling_first _ _ _ _ unread sent role p t queued c.args.reader.now c.args.link.now way;
 }
 
@@ -19,6 +21,7 @@ loop-is_whole-preserved g c =
     let h = did.pulled k.0 k.1 k.2 k.3 k.4 k.5 k.6 in record {
       lawful = (_, k.1, k.2, _, _, _, h.way);
       room = inr (omega (arith, stop.room on, did.main));
+      law = law_then g.C.Carrier.law c.args.link.now c.loop-is_whole.link c.pull_one-is_whole.new.link before.law did.law;
       pulling = λ unread sent role p t queued way.
           let so_far = before.pulling unread sent role p t queued way in
           pulling_on _ _ _ _ unread sent role p t queued c.loop-is_whole.is_whole c.pull_one-is_whole.result c.loop-is_whole.reader c.pull_one-is_whole.new.reader c.loop-is_whole.link c.pull_one-is_whole.new.link so_far c.loop-is_whole-test.true (stop.whole on)

@@ -14,23 +14,23 @@ pub returns-in_ok-hand_out-in-Server-clause-moved : goal.returns-in_ok-hand_out-
 returns-in_ok-hand_out-in-Server-clause-moved g c w k =
     let s = inside _ _ c.self.view_is k in
     as_asked _ _ _ _ _ _ _ w c.args.side Server c.args.limit c.take_in.result c.in-Server.is
-    (moves_from_server _ _ _ _ _ _ _ w c.args.limit c.hand_out.new.under_way.items c.take_in.new.under_way.items c.take_in.result c.hand_out.new.from c.take_in.new.to s (c.in_ok-hand_out-in-Server.ensures.handed Server (at Server w) (s.ends Server)) (c.take_in.ensures Client (at Client w) (s.ends Client)))
+    (moves_from_server _ _ _ _ _ _ _ w c.args.limit c.hand_out.new.under_way.items c.take_in.new.under_way.items c.take_in.result c.hand_out.new.from c.take_in.new.to s (c.in_ok-hand_out-in-Server.ensures.handed Server (at Server w) (s.ends Server)) (c.take_in.ensures.taken Client (at Client w) (s.ends Client)))
 
 pub invariant_of-self-in-Server : goal.invariant_of-self-in-Server
 invariant_of-self-in-Server g c =
     let old = c.self.invariant in
-    lawful_both _ _ _ _ _ _ _ _ _ _ c.hand_out.new.from c.take_in.new.to (_, (c.in_ok-hand_out-in-Server.ensures.handed Server (old Server).0 (old Server).1).stands) (_, (c.take_in.ensures Client (old Client).0 (old Client).1).stands)
+    lawful_both _ _ _ _ _ _ _ _ _ _ c.hand_out.new.from c.take_in.new.to (_, (c.in_ok-hand_out-in-Server.ensures.handed Server (old Server).0 (old Server).1).stands) (_, (c.take_in.ensures.taken Client (old Client).0 (old Client).1).stands)
 
 pub returns-in_ok-hand_out-in-Client-clause-moved : goal.returns-in_ok-hand_out-in-Client-clause-moved
 returns-in_ok-hand_out-in-Client-clause-moved g c w k =
     let s = inside _ _ c.self.view_is k in
     as_asked _ _ _ _ _ _ _ w c.args.side Client c.args.limit c.take_in-in-Client.result c.in-Client.is
-    (moves_from_client _ _ _ _ _ _ _ w c.args.limit c.hand_out-in-Client.new.under_way.items c.take_in-in-Client.new.under_way.items c.take_in-in-Client.result c.hand_out-in-Client.new.from c.take_in-in-Client.new.to s (c.in_ok-hand_out-in-Client.ensures.handed Client (at Client w) (s.ends Client)) (c.take_in-in-Client.ensures Server (at Server w) (s.ends Server)))
+    (moves_from_client _ _ _ _ _ _ _ w c.args.limit c.hand_out-in-Client.new.under_way.items c.take_in-in-Client.new.under_way.items c.take_in-in-Client.result c.hand_out-in-Client.new.from c.take_in-in-Client.new.to s (c.in_ok-hand_out-in-Client.ensures.handed Client (at Client w) (s.ends Client)) (c.take_in-in-Client.ensures.taken Server (at Server w) (s.ends Server)))
 
 pub invariant_of-self-in-Client : goal.invariant_of-self-in-Client
 invariant_of-self-in-Client g c =
     let old = c.self.invariant in
-    lawful_both _ _ _ _ _ _ _ _ _ _ c.take_in-in-Client.new.to c.hand_out-in-Client.new.from (_, (c.take_in-in-Client.ensures Server (old Server).0 (old Server).1).stands) (_, (c.in_ok-hand_out-in-Client.ensures.handed Client (old Client).0 (old Client).1).stands)
+    lawful_both _ _ _ _ _ _ _ _ _ _ c.take_in-in-Client.new.to c.hand_out-in-Client.new.from (_, (c.take_in-in-Client.ensures.taken Server (old Server).0 (old Server).1).stands) (_, (c.in_ok-hand_out-in-Client.ensures.handed Client (old Client).0 (old Client).1).stands)
 
 pub invariant_of-self : goal.invariant_of-self
 invariant_of-self g c =

@@ -20,7 +20,7 @@ invariant_of-self-2 g c =
       old.1 ▷ Own (Closes c.args.id),
       closed _ _ _ g.C.Carrier.load _ _ _ c.self.inside.reader c.self.inside.postings c.self.inside.reliable c.give_if.new.link c.self.inside.lossy old.0 old.1 c.args.id c.load_of-load.result 0 c.close_channel.new.self c.given.new.self e c.load_of-load.ensures s
           (h.allowed u gone 0 st) h.same.0 h.same.1
-          (subst (λ bytes. GaveIf g.C.Carrier.stands g.C.Carrier.left g.C.Carrier.condition g.C.Carrier.load bytes c.self.inside.reliable c.give_if.new.link) c.waiting.ensures c.give_if.ensures) c.given.ensures.left
+          (subst (λ bytes. GaveIf g.C.Carrier.stands g.C.Carrier.left g.C.Carrier.condition g.C.Carrier.load bytes c.self.inside.reliable c.give_if.new.link) c.waiting.ensures c.give_if.ensures.gave) c.given.ensures.left
           (c.given.ensures.stands (u ▷ Closes c.args.id) gone s),
     )
 
@@ -34,5 +34,5 @@ returns-clause-closed g c role t k =
     let s = h.closed u gone st in
     closed _ _ _ g.C.Carrier.load _ _ _ c.self.inside.reader c.self.inside.postings c.self.inside.reliable c.give_if.new.link c.self.inside.lossy role t c.args.id c.load_of-load.result 0 c.close_channel.new.self c.given.new.self e c.load_of-load.ensures s
     (h.allowed u gone 0 st) h.same.0 h.same.1
-    (subst (λ bytes. GaveIf g.C.Carrier.stands g.C.Carrier.left g.C.Carrier.condition g.C.Carrier.load bytes c.self.inside.reliable c.give_if.new.link) c.waiting.ensures c.give_if.ensures) c.given.ensures.left
+    (subst (λ bytes. GaveIf g.C.Carrier.stands g.C.Carrier.left g.C.Carrier.condition g.C.Carrier.load bytes c.self.inside.reliable c.give_if.new.link) c.waiting.ensures c.give_if.ensures.gave) c.given.ensures.left
     (c.given.ensures.stands (u ▷ Closes c.args.id) gone s)
