@@ -1,11 +1,12 @@
 -- Lemmas on a piece of a file that is read bit by bit.
-use Rattle.std.proofs.Common.{◌≡◌, ℕ, suc, ◌+◌, ◌-◌, ◌<◌, ◌≤◌, List, [], ◌++◌, ◌∷◌, length, take, drop, Result, Ok, Err, refl, sym, ap, ◌∙◌, arith, length-drop}
-use Rattle.std.specs.Prelude.{IfOk}
-use Rattle.std.proofs.lemmas.List.{drop-drop, drop-take, drop_at, take-append-le, take_all, length-take-le}
+use Rattle.std.proofs.Common.{◌≡◌, ℕ, zero, suc, ◌+◌, ◌-◌, ◌<◌, ◌≤◌, List, [], ◌++◌, ◌∷◌, length, take, drop, Option, Some, None, Result, Ok, Err, Bool, true, nat_lt, slice_set, rules, refl, sym, ap, ◌∙◌, add-one, arith, length-drop}
+use Rattle.std.specs.Prelude.{IfOk, if◌then◌else◌}
+use Rattle.std.proofs.lemmas.List.{append-nil, drop-drop, drop-take, drop_at, take-append-le, take_all, take-take, length-take-le}
 use Rattle.std.proofs.Math.Seq.{take-add}
+use Rattle.mt_outside.specs.Told.{added}
 use Rattle.mt_outside.specs.Files.{Reads}
 use Rattle.mt_outside.specs.declared.failed.Failed.{Failed}
-use Rattle.file_transfer.specs.Reading.{Reaches}
+use Rattle.file_transfer.specs.Reading.{Reaches, drafted}
 
 pub reached : (content out room post : List ℕ) (from at n : ℕ) → at ≤ length room → n ≤ length out → 0 < length out → Reads content from n out → Reaches content from at n (take at room ++ (out ++ post))
 reached content out room post from at n h k some r = record {
@@ -36,3 +37,30 @@ read_whole content from count room bytes is ends fits =
     let short : length (drop from content) ≤ count = omega (arith, length-drop from content, ends) in
     let fits_too : length (drop from content) ≤ room = omega (arith, short, fits) in
     is ∙ take_all count (drop from content) short ∙ sym (take_all room (drop from content) fits_too)
+
+pub front_kept : (old new first : List ℕ) (count : ℕ) → take (count + 1) new ≡ take (count + 1) old → take 1 old ≡ first → take 1 new ≡ first
+front_kept old new first count now before =
+    let few : 1 ≤ count + 1 = omega arith in
+    sym (take-take 1 (count + 1) new few) ∙ ap (take 1) now ∙ take-take 1 (count + 1) old few ∙ before
+
+-- the message of what was read behind its first byte
+pub drafted_is : (n : ℕ) (room : List ℕ) → take 1 room ≡ 68 ∷ [] → n + 1 ≤ length room → (if nat_lt 0 n then Some (take (n + 1) room) else None) ≡ drafted (take n (drop 1 room))
+drafted_is zero room first fits = refl
+drafted_is (suc n) [] first fits = absurd (omega (arith, fits))
+drafted_is (suc n) (x ∷ []) first fits = absurd (omega (arith, fits))
+drafted_is (suc n) (x ∷ y ∷ room) first fits =
+    let same : x ≡ 68 = cc in
+    let above : nat_lt 0 (suc n) ≡ true = search rules in
+    let whole : take (suc n + 1) (x ∷ y ∷ room) ≡ 68 ∷ y ∷ take n room = ap (λ k. take k (x ∷ y ∷ room)) (add-one (suc n)) ∙ ap (λ b. b ∷ y ∷ take n room) same in
+    ap (λ b. if b then Some (take (suc n + 1) (x ∷ y ∷ room)) else None) above ∙ ap Some whole
+
+pub piece_length : (n : ℕ) (room : List ℕ) → n + 1 ≤ length room → length (take n (drop 1 room)) ≡ n
+piece_length n room fits = let few : n ≤ length (drop 1 room) = omega (arith, length-drop 1 room, fits) in length-take-le n (drop 1 room) few
+
+pub first_set : (room : List ℕ) (x : ℕ) → 0 < length room → take 1 (slice_set room 0 x) ≡ x ∷ []
+first_set [] x some = absurd (omega (arith, some))
+first_set (y ∷ room) x some = refl
+
+pub added_none : {A : Type 0} (told : Option (List A)) → added told [] ≡ told
+added_none None = refl
+added_none (Some list) = ap Some (append-nil list)

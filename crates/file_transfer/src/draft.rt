@@ -107,7 +107,6 @@ impl Draft {
             × ((content : List ℕ) → Holds (F.told store.old) path.now content → piece ≡ take 65536 (drop from content))) }
     {
         self.is_made = false;
-        self.room[0] = b'D';
         let count = read_piece(store, path, from, &mut self.room)?;
         self.length = count + 1;
         self.is_made = count > 0;

@@ -30,8 +30,8 @@ fn read_behind<F: FileStore>(
     store.read(path, from, &mut room[at..])
 }
 
-/// Reads bytes of the file from place `from` on behind the first byte of the room, until it is full or the file ends.
-/// Gives how many came; for a store that tells the file they are as many as there are and fit.
+/// Puts `D` at the front of the room, and behind it the bytes of the file from place `from` on, until the room is full
+/// or the file ends. Gives how many came; for a store that tells the file they are as many as there are and fit.
 pub(crate) fn read_piece<F: FileStore>(
     store: &mut F,
     path: &str,
@@ -46,9 +46,10 @@ pub(crate) fn read_piece<F: FileStore>(
     ensures same { F.told store.new ≡ F.told store.old }
     ensures names { (k : ℕ) × (F.named store.new ≡ added (F.named store.old) (replicate k path.now)) }
     ensures bound { IfOk result (λ n. n + 1 ≤ length room.old) }
-    ensures front { take 1 room.new ≡ take 1 room.old }
+    ensures front { OnOk result (take 1 room.new ≡ 68 ∷ []) }
     ensures bytes { (content : List ℕ) → Holds (F.told store.old) path.now content → IfOk result (λ n. take n (drop 1 room.new) ≡ take (length room.old - 1) (drop from content)) }
 {
+    room[0] = b'D';
     let mut count = 0;
     while count + 1 < room.len() {
         let more = read_behind(store, path, from + count as u64, room, count + 1)?;
