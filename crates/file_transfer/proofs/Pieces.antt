@@ -1,5 +1,5 @@
 -- Lemmas on a piece of a file that is read bit by bit.
-use Rattle.std.proofs.Common.{◌≡◌, ℕ, zero, suc, ◌+◌, ◌-◌, ◌<◌, ◌≤◌, List, [], ◌++◌, ◌∷◌, length, take, drop, Option, Some, None, Result, Ok, Err, Bool, true, nat_lt, slice_set, rules, refl, sym, ap, ◌∙◌, add-one, arith, length-drop}
+use Rattle.std.proofs.Common.{◌≡◌, ℕ, zero, suc, ◌+◌, ◌<◌, ◌≤◌, List, [], ◌++◌, ◌∷◌, length, take, drop, Option, Some, None, Result, Ok, Err, true, nat_lt, slice_set, rules, refl, sym, ap, ◌∙◌, add-one, arith, length-drop}
 use Rattle.std.specs.Prelude.{IfOk, if◌then◌else◌}
 use Rattle.std.proofs.lemmas.List.{append-nil, drop-drop, drop-take, drop_at, take-append-le, take_all, take-take, length-take-le}
 use Rattle.std.proofs.Math.Seq.{take-add}

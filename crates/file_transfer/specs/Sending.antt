@@ -1,5 +1,5 @@
 -- What stands of the messages that an end makes of its files.
-use Rattle.std.specs.Prelude.{◌≡◌, ℕ, ◌+◌, List, [], ◌∷◌, ◌++◌, length, map, flat_map, take, drop, All, slice_index_or, Option, Some, None}
+use Rattle.std.specs.Prelude.{◌≡◌, ℕ, List, [], ◌∷◌, ◌++◌, length, map, flat_map, take, drop, All, slice_index_or, Option, Some, None}
 use Rattle.std.specs.List.{concat}
 use Rattle.file_messages.specs.Files.{Message, File, Carried, IsName, messages_of, file_of}
 use Rattle.file_messages.specs.Written.{IsInFull}
@@ -63,7 +63,7 @@ contents_of files = map (λ (file : File). file.content) files
 -- The files so far have these contents, and the last one, where it is not whole, the front of its.
 abbrev pub FollowAt : Stage → (made at : ℕ) → List (List ℕ) → List File → Type 0
 FollowAt Between made at contents files = contents_of files ≡ take made contents
-FollowAt Within made at contents files = (before : List File) × (last : File) × (files ≡ before ++ last ∷ []) × (contents_of before ≡ take made contents) × (last.content ≡ take at (slice_index_or contents made []))
+FollowAt Within made at contents files = contents_of files ≡ take made contents ++ take at (slice_index_or contents made []) ∷ []
 FollowAt Ended made at contents files = contents_of files ≡ contents
 
 abbrev pub Follow : Outgoing → List (List ℕ) → List File → Type 0

@@ -4,6 +4,7 @@ ghost use Rattle.std.specs.Prelude.{◌≤◌, vec_len};
 
 use crate::draft::Draft;
 use crate::own_file::OwnFile;
+use file_messages::PIECE;
 use mt_base::NoMemory;
 use mt_outside::FileStore;
 use std::alloc::Global;
@@ -50,9 +51,10 @@ pub struct Outgoing {
 }
 
 impl Outgoing {
-    ghost use Rattle.std.specs.Prelude.{◌≡◌, ◌≢◌, ◌≤◌, ◌<◌, ◌+◌, ◌∷◌, ◌++◌, ◌⊎◌, [], ℕ, List, Bool, true, false, Some, None, length, map, All, replicate, IfOk, IfErr, OnOk, OnErr, IsErrOf, IsTrue, ◌↔◌, option_copied, is_some, vec_len};
+    ghost use Rattle.std.specs.Prelude.{◌≡◌, ◌≢◌, ◌≤◌, ◌<◌, ◌+◌, ◌∷◌, ◌++◌, ◌⊎◌, [], ℕ, List, Bool, true, false, Some, None, length, map, All, replicate, IfOk, IfErr, OnOk, OnErr, IsErrOf, IsTrue, ◌↔◌, option_copied, is_some, vec_len, Option};
     ghost use Rattle.mt_outside.specs.Faults.{Rose};
     ghost use Rattle.mt_outside.specs.Told.{added};
+    ghost use Rattle.mt_outside.specs.Files.{Contents};
     ghost use Rattle.file_messages.specs.Files.{Message, File};
     ghost use Rattle.file_messages.specs.Written.{AreWritten};
     ghost use Rattle.file_transfer.specs.Own.{Own};
@@ -103,12 +105,103 @@ impl Outgoing {
         self.draft.clear();
     }
 
+    /// Makes the next message, where none waits and the last is not made yet, and reads the store for it.
+    ///
+    /// For a store that tells the own files, the contents are those that it tells.
+    pub fn make<F: FileStore>(&mut self, store: &mut F) -> Result<(), MakeFault>
+        ensures never_falls { F.faults store.old ≤ F.faults store.new }
+        ensures cause { IsErrOf result MakeFault.Failed → Rose (F.faults store.old) (F.faults store.new) }
+        ensures counts { ¬ IsErrOf result MakeFault.Failed → F.faults store.new ≡ F.faults store.old }
+        ensures same { F.told store.new ≡ F.told store.old }
+        ensures files { (self.new).files.items ≡ (self.old).files.items }
+        ensures sent { (sent : List Message) (files : List File) → HasSent self.old sent files →
+            OnOk result ((later : List File) × HasSent self.new sent later
+                × ((contents : List (List ℕ)) → AreHeld (F.told store.old) (self.old).files.items contents → Follow self.old contents files → Follow self.new contents later)) }
+        ensures ready { (sent : List Message) (files : List File) → HasSent self.old sent files →
+            OnOk result ((self.new).draft ≡ None → (self.new).stage ≡ stage.Ended) }
+    {
+        if self.draft.is_made() {
+            return Ok(());
+        }
+        self.make_piece(store)?;
+        self.make_heading();
+        Ok(())
+    }
+
+    /// Makes the message of the next piece of a file that is not whole, where there is one. The file is whole behind a
+    /// piece that is not full.
+    fn make_piece<F: FileStore>(&mut self, store: &mut F) -> Result<(), MakeFault>
+        requires { (self.old).draft ≡ None }
+        ensures never_falls { F.faults store.old ≤ F.faults store.new }
+        ensures cause { IsErrOf result MakeFault.Failed → Rose (F.faults store.old) (F.faults store.new) }
+        ensures counts { ¬ IsErrOf result MakeFault.Failed → F.faults store.new ≡ F.faults store.old }
+        ensures same { F.told store.new ≡ F.told store.old }
+        ensures files { (self.new).files.items ≡ (self.old).files.items }
+        ensures sent { (sent : List Message) (files : List File) → HasSent self.old sent files →
+            OnOk result ((later : List File) × HasSent self.new sent later
+                × ((contents : List (List ℕ)) → AreHeld (F.told store.old) (self.old).files.items contents → Follow self.old contents files → Follow self.new contents later)) }
+        ensures goes_on { (sent : List Message) (files : List File) → HasSent self.old sent files →
+            OnOk result ((self.new).draft ≡ None → (self.new).stage ≢ stage.Within) }
+    {
+        let Stage::Within = self.stage else {
+            return Ok(());
+        };
+        if self.made >= self.files.len() {
+            return Ok(());
+        }
+        let file = &self.files[self.made];
+        let Ok(count) = self.draft.put_piece(store, file.path(), self.at) else {
+            return Err(MakeFault::Failed);
+        };
+        if count as u64 > LIMIT - self.read {
+            return Err(MakeFault::Limit);
+        }
+        self.read += count as u64;
+        if count == PIECE {
+            self.at += count as u64;
+            return Ok(());
+        }
+        self.made += 1;
+        self.stage = Stage::Between;
+        self.at = 0;
+        Ok(())
+    }
+
+    /// Where no message waits and each file so far is whole, makes the name of the next, or the empty message behind the
+    /// last.
+    fn make_heading(&mut self)
+        ensures files { (self.new).files.items ≡ (self.old).files.items }
+        ensures sent { (sent : List Message) (files : List File) → HasSent self.old sent files →
+            ((later : List File) × HasSent self.new sent later
+                × ((told : Option Contents) (contents : List (List ℕ)) → AreHeld told (self.old).files.items contents → Follow self.old contents files → Follow self.new contents later)) }
+        ensures ready { ((self.old).draft ≡ None → (self.old).stage ≢ stage.Within) → (self.new).draft ≡ None → (self.new).stage ≡ stage.Ended }
+    {
+        if self.draft.is_made() {
+            return;
+        }
+        let Stage::Between = self.stage else {
+            return;
+        };
+        if self.made < self.files.len() {
+            let file = &self.files[self.made];
+            self.draft.put_name(file.name());
+            self.stage = Stage::Within;
+            self.at = 0;
+        } else {
+            self.draft.put_end();
+            self.stage = Stage::Ended;
+        }
+    }
+
     /// Whether all messages are sent, the empty one too: then they are those that are written for the own files, in
     /// order, with the contents that were read.
     pub fn is_done(&self) -> bool
         ensures whole { IsTrue result → (sent : List Message) (files : List File) → HasSent self.now sent files → AreWritten sent files × (map (λ (file : File). file.name) files ≡ map (λ (own : Own). own.name) (self.now).files.items) }
         ensures contents { IsTrue result → (contents : List (List ℕ)) (files : List File) → Follow self.now contents files → contents_of files ≡ contents }
     {
-        self.stage == Stage::Ended && !self.draft.is_made()
+        match self.stage {
+            Stage::Ended => !self.draft.is_made(),
+            _ => false,
+        }
     }
 }

@@ -1,4 +1,4 @@
-use Rattle.std.proofs.Common.{◌≡◌, ℕ, ◌-◌, ◌<◌, ◌≤◌, length, drop, take, arith}
+use Rattle.std.proofs.Common.{◌-◌, ◌<◌, length, drop, take, arith}
 use Rattle.std.proofs.lemmas.Grind.{common_steps}
 use borrow.Rule.Slice.PartMut.{post_of}
 use Rattle.file_transfer.proofs.Pieces.{reached_ok}
