@@ -1,3 +1,4 @@
+pub mod Keeping
 pub mod Own
 pub mod Reading
 pub mod Sending

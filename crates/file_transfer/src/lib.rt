@@ -6,10 +6,15 @@
 //! `specs/Sending.antt`), and that these files have the contents that the store tells (`Follows`).
 #![tactic(auto)]
 
+mod arrivals;
+mod coming;
 mod draft;
+mod incoming;
 mod outgoing;
 mod own_file;
 mod reading;
 
+pub use coming::KeptFile;
+pub use incoming::{Incoming, KeepFault};
 pub use outgoing::{MakeFault, Outgoing};
 pub use own_file::{OwnFile, PathRefusal};
