@@ -1,6 +1,6 @@
 //! A file that comes, piece by piece, and what is known of one that came.
 
-ghost use Rattle.std.specs.Prelude.{◌≡◌, ◌++◌, List, ℕ, string_bytes, IfOk};
+ghost use Rattle.std.specs.Prelude.{◌≡◌, ◌++◌, [], List, ℕ, string_bytes, IfOk};
 ghost use Rattle.file_messages.specs.Files.{File};
 
 use mt_base::NoMemory;

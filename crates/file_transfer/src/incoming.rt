@@ -26,7 +26,7 @@ pub struct Incoming {
 }
 
 impl Incoming {
-    ghost use Rattle.std.specs.Prelude.{◌≡◌, ◌∷◌, ◌++◌, [], ℕ, List, Option, None, Bool, true, IfOk, OnOk, OnErr, IsErrOf, IsTrue, ◌↔◌, string_bytes};
+    ghost use Rattle.std.specs.Prelude.{◌≡◌, ◌≤◌, ◌∷◌, ◌++◌, [], ℕ, List, Option, None, Bool, true, IfOk, OnOk, OnErr, IsErrOf, IsTrue, ◌↔◌, string_bytes};
     ghost use Rattle.std.specs.Option.{option_map};
     ghost use Rattle.mt_outside.specs.Faults.{Rose};
     ghost use Rattle.mt_outside.specs.Files.{Contents};
