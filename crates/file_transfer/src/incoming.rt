@@ -2,8 +2,9 @@
 
 use crate::arrivals::{ArrivalFault, Arrivals};
 use crate::coming::KeptFile;
+use crate::lines::lines;
 use file_messages::FileReader;
-use mt_outside::FileStore;
+use mt_outside::{FileStore, Sink, write_all};
 use std::alloc::Global;
 
 /// Why a message is not taken.
@@ -12,6 +13,14 @@ pub enum KeepFault {
     /// No list of file messages has it at its place. Nothing changed.
     BadMessage,
     /// The store failed.
+    Failed,
+    NoMemory,
+}
+
+/// Why the lines are not printed whole.
+#[derive(Clone, Copy, Debug, PartialEq, Eq)]
+pub enum PrintFault {
+    /// The sink failed.
     Failed,
     NoMemory,
 }
@@ -26,14 +35,17 @@ pub struct Incoming {
 }
 
 impl Incoming {
-    ghost use Rattle.std.specs.Prelude.{◌≡◌, ◌≤◌, ◌∷◌, ◌++◌, [], ℕ, List, Option, None, Bool, true, IfOk, OnOk, OnErr, IsErrOf, IsTrue, ◌↔◌, string_bytes};
+    ghost use Rattle.std.specs.Prelude.{◌≡◌, ◌≤◌, ◌∷◌, ◌++◌, [], ℕ, List, Option, None, Bool, true, IfOk, OnOk, OnErr, IsErrOf, IsTrue, ◌↔◌, string_bytes, take};
     ghost use Rattle.std.specs.Option.{option_map};
     ghost use Rattle.mt_outside.specs.Faults.{Rose};
+    ghost use Rattle.mt_outside.specs.Told.{added};
     ghost use Rattle.mt_outside.specs.Files.{Contents};
     ghost use Rattle.file_messages.specs.Files.{Message, File, AreFiles, HaveCome};
     ghost use Rattle.file_messages.specs.Read.{after, HasRead};
     ghost use Rattle.file_transfer.specs.Keeping.{HasKept, CameAs, with_files, with_bytes};
+    ghost use Rattle.file_transfer.specs.Lines.{got_lines};
     ghost use Rattle.file_transfer.specs.declared.incoming.KeepFault.{KeepFault};
+    ghost use Rattle.file_transfer.specs.declared.incoming.PrintFault.{PrintFault};
 
     /// No message has come. The prefix stands before the name of each file that is kept.
     pub fn new(alloc: Global, prefix: String) -> Incoming
@@ -92,5 +104,30 @@ impl Incoming {
             Err(ArrivalFault::Failed) => Err(KeepFault::Failed),
             Err(ArrivalFault::NoMemory) => Err(KeepFault::NoMemory),
         }
+    }
+
+    /// Prints a line for each file that came, in order, with its name, its size and its SHA-256, and one that says `done`.
+    /// The mark stands before each line. Where the sink fails, a beginning of the lines was written.
+    pub fn print<K: Sink>(
+        &self,
+        alloc: Global,
+        mark: &str,
+        out: &mut K,
+    ) -> Result<(), PrintFault>
+        ensures never_falls { K.faults out.old ≤ K.faults out.new }
+        ensures cause { IsErrOf result PrintFault.Failed → Rose (K.faults out.old) (K.faults out.new) }
+        ensures counts { ¬ IsErrOf result PrintFault.Failed → K.faults out.new ≡ K.faults out.old }
+        ensures lines { (messages : List Message) (files : List File) → HasKept self.now messages files → AreFiles messages files →
+            OnOk result (K.written out.new ≡ added (K.written out.old) (got_lines mark.now files)) }
+        ensures part { (messages : List Message) (files : List File) → HasKept self.now messages files → AreFiles messages files →
+            (k : ℕ) × (K.written out.new ≡ added (K.written out.old) (take k (got_lines mark.now files))) }
+    {
+        let Ok(text) = lines(alloc, mark, self.files()) else {
+            return Err(PrintFault::NoMemory);
+        };
+        let Ok(()) = write_all(out, &text) else {
+            return Err(PrintFault::Failed);
+        };
+        Ok(())
     }
 }

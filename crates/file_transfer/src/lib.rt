@@ -10,11 +10,14 @@ mod arrivals;
 mod coming;
 mod draft;
 mod incoming;
+mod laws;
+mod lines;
 mod outgoing;
 mod own_file;
 mod reading;
 
 pub use coming::KeptFile;
-pub use incoming::{Incoming, KeepFault};
+pub use incoming::{Incoming, KeepFault, PrintFault};
+pub use laws::what_is_kept;
 pub use outgoing::{MakeFault, Outgoing};
 pub use own_file::{OwnFile, PathRefusal};
