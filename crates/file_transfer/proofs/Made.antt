@@ -15,7 +15,7 @@ use Rattle.file_transfer.specs.Own.{Own}
 use Rattle.file_transfer.specs.Reading.{drafted}
 use Rattle.file_transfer.specs.Sending.{AreMade, AreMadeWithin, AreMadeAll, AreHeld, none, more, contents_of, waiting}
 
-abbrev IsWhole : List ℕ → Type 0
+abbrev pub IsWhole : List ℕ → Type 0
 IsWhole piece = length piece ≡ 65536
 
 -- ---- pieces

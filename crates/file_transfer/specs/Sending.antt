@@ -2,7 +2,7 @@
 use Rattle.std.specs.Prelude.{◌≡◌, ℕ, List, [], ◌∷◌, ◌++◌, length, map, flat_map, take, drop, All, slice_index_or, Option, Some, None}
 use Rattle.std.specs.List.{concat}
 use Rattle.file_messages.specs.Files.{Message, File, Carried, IsName, messages_of, file_of}
-use Rattle.file_messages.specs.Written.{IsInFull}
+use Rattle.file_messages.specs.Written.{IsInFull, AreWritten}
 use Rattle.mt_outside.specs.Files.{Contents, Holds}
 use Rattle.file_transfer.specs.Own.{Own}
 use Rattle.file_transfer.specs.declared.outgoing.Stage.{Stage}
@@ -68,3 +68,11 @@ FollowAt Ended made at contents files = contents_of files ≡ contents
 
 abbrev pub Follow : Outgoing → List (List ℕ) → List File → Type 0
 Follow o contents files = FollowAt o.stage o.made o.at contents files
+
+-- Messages are the front of those that are written for the own files with these contents.
+pub record IsFront (owns : List Own) (contents : List (List ℕ)) (sent : List Message) : Type 0 where
+  pub files : List File
+  pub rest : List Message
+  pub are_written : AreWritten (sent ++ rest) files
+  pub names_are : map (λ (file : File). file.name) files ≡ map (λ (own : Own). own.name) owns
+  pub contents_are : contents_of files ≡ contents

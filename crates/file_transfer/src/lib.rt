@@ -18,6 +18,6 @@ mod reading;
 
 pub use coming::KeptFile;
 pub use incoming::{Incoming, KeepFault, PrintFault};
-pub use laws::what_is_kept;
+pub use laws::{what_is_kept, what_was_sent_is_a_front};
 pub use outgoing::{MakeFault, Outgoing};
 pub use own_file::{OwnFile, PathRefusal};
