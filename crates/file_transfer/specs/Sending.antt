@@ -1,5 +1,5 @@
 -- What stands of the messages that an end makes of its files.
-use Rattle.std.specs.Prelude.{◌≡◌, ℕ, List, [], ◌∷◌, ◌++◌, length, map, flat_map, take, drop, All, slice_index_or, Option, Some, None}
+use Rattle.std.specs.Prelude.{◌≡◌, ℕ, ◌+◌, ◌-◌, ◌*◌, List, [], ◌∷◌, ◌++◌, length, map, flat_map, take, drop, All, slice_index_or, Option, Some, None}
 use Rattle.std.specs.List.{concat}
 use Rattle.file_messages.specs.Files.{Message, File, Carried, IsName, messages_of, file_of}
 use Rattle.file_messages.specs.Written.{IsInFull, AreWritten}
@@ -76,3 +76,13 @@ pub record IsFront (owns : List Own) (contents : List (List ℕ)) (sent : List M
   pub are_written : AreWritten (sent ++ rest) files
   pub names_are : map (λ (file : File). file.name) files ≡ map (λ (own : Own). own.name) owns
   pub contents_are : contents_of files ≡ contents
+
+-- a number that falls with each message that is made: the bytes that may still be read, and the names and the end that are still
+-- to come
+abbrev pub steps_left : Stage → ℕ
+steps_left Between = 2
+steps_left Within = 1
+steps_left Ended = 0
+
+abbrev pub to_do : Outgoing → ℕ
+to_do o = (4294967296 - o.read) + 2 * (length o.files.items - o.made) + steps_left o.stage

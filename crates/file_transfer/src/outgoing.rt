@@ -51,14 +51,14 @@ pub struct Outgoing {
 }
 
 impl Outgoing {
-    ghost use Rattle.std.specs.Prelude.{◌≡◌, ◌≢◌, ◌≤◌, ◌<◌, ◌+◌, ◌∷◌, ◌++◌, ◌⊎◌, [], ℕ, List, Bool, true, false, Some, None, length, map, All, replicate, IfOk, IfErr, OnOk, OnErr, IsErrOf, IsTrue, ◌↔◌, option_copied, is_some, vec_len, Option};
+    ghost use Rattle.std.specs.Prelude.{◌≡◌, ◌≢◌, ◌≤◌, ◌<◌, ◌+◌, ◌∷◌, ◌++◌, ◌⊎◌, [], ℕ, List, Bool, true, false, Some, None, length, map, All, replicate, IfOk, IfErr, OnOk, OnErr, IsErrOf, IsTrue, ◌↔◌, option_copied, is_some, vec_len, Option, Contains};
     ghost use Rattle.mt_outside.specs.Faults.{Rose};
     ghost use Rattle.mt_outside.specs.Told.{added};
     ghost use Rattle.mt_outside.specs.Files.{Contents};
     ghost use Rattle.file_messages.specs.Files.{Message, File};
     ghost use Rattle.file_messages.specs.Written.{AreWritten};
     ghost use Rattle.file_transfer.specs.Own.{Own};
-    ghost use Rattle.file_transfer.specs.Sending.{HasSent, AreHeld, Follow, waiting, contents_of};
+    ghost use Rattle.file_transfer.specs.Sending.{HasSent, AreHeld, Follow, waiting, contents_of, to_do};
     ghost use Rattle.file_transfer.specs.declared.outgoing.Stage.TheVariants as stage;
     ghost use Rattle.file_transfer.specs.declared.outgoing.MakeFault.{MakeFault};
 
@@ -101,6 +101,8 @@ impl Outgoing {
         ensures files { (self.new).files.items ≡ (self.old).files.items }
         ensures read { (self.new).read ≡ (self.old).read }
         ensures none { (self.new).draft ≡ None }
+        ensures stage { (self.new).stage ≡ (self.old).stage }
+        ensures goes { to_do self.new ≡ to_do self.old }
     {
         self.draft.clear();
     }
@@ -113,12 +115,15 @@ impl Outgoing {
         ensures cause { IsErrOf result MakeFault.Failed → Rose (F.faults store.old) (F.faults store.new) }
         ensures counts { ¬ IsErrOf result MakeFault.Failed → F.faults store.new ≡ F.faults store.old }
         ensures same { F.told store.new ≡ F.told store.old }
+        ensures names { (paths : List (List ℕ)) × (F.named store.new ≡ added (F.named store.old) paths) × All (Contains (map (λ (own : Own). own.path) (self.old).files.items)) paths }
         ensures files { (self.new).files.items ≡ (self.old).files.items }
         ensures sent { (sent : List Message) (files : List File) → HasSent self.old sent files →
             OnOk result ((later : List File) × HasSent self.new sent later
                 × ((contents : List (List ℕ)) → AreHeld (F.told store.old) (self.old).files.items contents → Follow self.old contents files → Follow self.new contents later)) }
         ensures ready { (sent : List Message) (files : List File) → HasSent self.old sent files →
             OnOk result ((self.new).draft ≡ None → (self.new).stage ≡ stage.Ended) }
+        ensures goes { (sent : List Message) (files : List File) → HasSent self.old sent files → (self.old).draft ≡ None → (self.old).stage ≢ stage.Ended →
+            OnOk result (to_do self.new < to_do self.old) }
     {
         if self.draft.is_made() {
             return Ok(());
@@ -136,12 +141,15 @@ impl Outgoing {
         ensures cause { IsErrOf result MakeFault.Failed → Rose (F.faults store.old) (F.faults store.new) }
         ensures counts { ¬ IsErrOf result MakeFault.Failed → F.faults store.new ≡ F.faults store.old }
         ensures same { F.told store.new ≡ F.told store.old }
+        ensures names { (paths : List (List ℕ)) × (F.named store.new ≡ added (F.named store.old) paths) × All (Contains (map (λ (own : Own). own.path) (self.old).files.items)) paths }
         ensures files { (self.new).files.items ≡ (self.old).files.items }
         ensures sent { (sent : List Message) (files : List File) → HasSent self.old sent files →
             OnOk result ((later : List File) × HasSent self.new sent later
                 × ((contents : List (List ℕ)) → AreHeld (F.told store.old) (self.old).files.items contents → Follow self.old contents files → Follow self.new contents later)) }
         ensures goes_on { (sent : List Message) (files : List File) → HasSent self.old sent files →
             OnOk result ((self.new).draft ≡ None → (self.new).stage ≢ stage.Within) }
+        ensures goes { (sent : List Message) (files : List File) → HasSent self.old sent files → (self.old).stage ≡ stage.Within → OnOk result (to_do self.new < to_do self.old) }
+        ensures idle { (self.old).stage ≢ stage.Within → self.new ≡ self.old }
     {
         let Stage::Within = self.stage else {
             return Ok(());
@@ -175,6 +183,8 @@ impl Outgoing {
             ((later : List File) × HasSent self.new sent later
                 × ((told : Option Contents) (contents : List (List ℕ)) → AreHeld told (self.old).files.items contents → Follow self.old contents files → Follow self.new contents later)) }
         ensures ready { ((self.old).draft ≡ None → (self.old).stage ≢ stage.Within) → (self.new).draft ≡ None → (self.new).stage ≡ stage.Ended }
+        ensures goes { to_do self.new ≤ to_do self.old }
+        ensures begins { (self.old).draft ≡ None → (self.old).stage ≡ stage.Between → to_do self.new < to_do self.old }
     {
         if self.draft.is_made() {
             return;

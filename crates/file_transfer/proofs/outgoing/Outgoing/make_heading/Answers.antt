@@ -1,6 +1,6 @@
 use Rattle.std.proofs.Common.{◌≡◌, ◌∙◌, ◌+◌, ◌≤◌, ◌<◌, ◌∷◌, [], ◌++◌, Some, length, drop, sym, ap, subst, arith}
 use Rattle.file_messages.specs.Files.{name_message}
-use Rattle.file_transfer.specs.Sending.{FollowAt}
+use Rattle.file_transfer.specs.Sending.{FollowAt, steps_left}
 use Rattle.file_transfer.specs.declared.outgoing.Stage.TheVariants as stage
 use Rattle.file_transfer.proofs.Made.{begun, begun_follows, ended, ended_follows}
 use Rattle.file_transfer.proofs.Stages.{made_at, none_waits, from_there}
@@ -32,3 +32,15 @@ returns-else-self-len-clause-sent c = λ sent files h.
       ended o.files.items o.made sent files c.put_end.new.self all c.put_end.ensures m,
       λ told contents held f. ended_follows told o.files.items o.made contents files all held (subst (λ s. FollowAt s o.made o.at contents files) c.in-Between.is f),
     )
+
+pub returns-then-self-len-clause-goes : goal.returns-then-self-len-clause-goes
+returns-then-self-len-clause-goes c = let left = ap steps_left c.in-Between.is in omega (arith, left)
+
+pub returns-then-self-len-clause-begins : goal.returns-then-self-len-clause-begins
+returns-then-self-len-clause-begins c = λ none here. let left = ap steps_left c.in-Between.is in omega (arith, left)
+
+pub returns-else-self-len-clause-goes : goal.returns-else-self-len-clause-goes
+returns-else-self-len-clause-goes c = let left = ap steps_left c.in-Between.is in omega (arith, left)
+
+pub returns-else-self-len-clause-begins : goal.returns-else-self-len-clause-begins
+returns-else-self-len-clause-begins c = λ none here. let left = ap steps_left c.in-Between.is in omega (arith, left)

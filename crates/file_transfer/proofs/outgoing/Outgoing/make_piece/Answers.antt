@@ -1,10 +1,12 @@
-use Rattle.std.proofs.Common.{◌≡◌, ◌∙◌, ◌+◌, ◌<◌, ◌++◌, length, sym, ap, subst, arith}
+use Rattle.std.specs.Prelude.{Contains}
+use Rattle.std.proofs.lemmas.List.Elements.{All-replicate}
+use Rattle.std.proofs.Common.{◌≡◌, ◌∙◌, ◌+◌, ◌<◌, ◌++◌, length, map, replicate, sym, ap, subst, arith}
 use Rattle.mt_outside.specs.Files.{Holds}
 use Rattle.file_transfer.specs.Own.{Own}
-use Rattle.file_transfer.specs.Sending.{MadeAt, FollowAt, waiting}
+use Rattle.file_transfer.specs.Sending.{MadeAt, FollowAt, waiting, steps_left}
 use Rattle.file_transfer.specs.declared.outgoing.Stage.TheVariants as stage
 use Rattle.file_transfer.proofs.Made.{within_on, within_over}
-use Rattle.file_transfer.proofs.Stages.{made_at, from_there}
+use Rattle.file_transfer.proofs.Stages.{made_at, from_there, own_path}
 use Rattle.file_transfer.proofs.outgoing.Outgoing.make_piece.Goals as goal
 
 pub returns-then-count-eq-PIECE-clause-sent : goal.returns-then-count-eq-PIECE-clause-sent
@@ -39,3 +41,19 @@ returns-clause-sent g c = λ sent files h.
     let short : c.in-Ok.count < 65536 = omega (arith, few) in
     let over = within_over owns o.made o.at c.in-Ok.count told m.0 m.1 c.put_piece.new.self sent files p.0 m.2 m.3 p.1 short p.3 (λ content holds. p.4 content (subst (λ n. Holds told n content) path holds)) in
     (over.0, over.1, λ contents held f. over.2 contents held (subst (λ s. FollowAt s o.made o.at contents files) c.in-Within.is f))
+
+pub returns-then-count-eq-PIECE-clause-goes : goal.returns-then-count-eq-PIECE-clause-goes
+returns-then-count-eq-PIECE-clause-goes g c = λ sent files h within. omega arith
+
+pub returns-clause-names : goal.returns-clause-names
+returns-clause-names g c =
+    let o = c.args.self.now in
+    let there : o.made < length o.files.items = omega arith in
+    let names = c.in-Ok.ensures.names in
+    (replicate names.0 c.path.result.now, names.1, All-replicate (Contains (map (λ (own : Own). own.path) o.files.items)) names.0 c.path.result.now (own_path o.files.items o.made c.index-file.result.now c.path.result.now there c.index-file.ensures c.path.ensures))
+
+pub returns-clause-goes : goal.returns-clause-goes
+returns-clause-goes g c = λ sent files h within.
+    let left = ap steps_left within in
+    let there : c.args.self.now.made < length c.args.self.now.files.items = omega arith in
+    omega (arith, left, there)
