@@ -8,12 +8,12 @@ use Rattle.file_messages.specs.Files.{Message, File, Carried, IsName, IsPiece, m
 use Rattle.file_messages.specs.Written.{AreFull, IsInFull, AreWritten}
 
 -- at most so many pieces of k bytes
-abbrev cut : ℕ → ℕ → List ℕ → List (List ℕ)
+abbrev pub cut : ℕ → ℕ → List ℕ → List (List ℕ)
 cut k zero bytes = []
 cut k (suc n) [] = []
 cut k (suc n) (b ∷ bytes) = take k (b ∷ bytes) ∷ cut k n (drop k (b ∷ bytes))
 
-cut_joins : (k n : ℕ) (bytes : List ℕ) → k ≡ 65536 → length bytes ≤ n → concat (cut k n bytes) ≡ bytes
+pub cut_joins : (k n : ℕ) (bytes : List ℕ) → k ≡ 65536 → length bytes ≤ n → concat (cut k n bytes) ≡ bytes
 cut_joins k zero [] is few = refl
 cut_joins k zero (b ∷ bytes) is few = absurd (omega (arith, few))
 cut_joins k (suc n) [] is few = refl
@@ -27,7 +27,7 @@ one_more k zero piece (b ∷ rest) good full few others = absurd (omega (arith, 
 one_more k (suc n) piece [] good full few others = good
 one_more k (suc n) piece (b ∷ rest) good full few others = (full (omega arith), others)
 
-cut_full : (k n : ℕ) (bytes : List ℕ) → k ≡ 65536 → length bytes ≤ n → AreFull (cut k n bytes)
+pub cut_full : (k n : ℕ) (bytes : List ℕ) → k ≡ 65536 → length bytes ≤ n → AreFull (cut k n bytes)
 cut_full k zero bytes is few = tt
 cut_full k (suc n) [] is few = tt
 cut_full k (suc n) (b ∷ bytes) is few =

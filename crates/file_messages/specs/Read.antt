@@ -1,5 +1,5 @@
 -- What a reader of file messages stands for, and what a message does to the files.
-use Rattle.std.specs.Prelude.{◌≡◌, ℕ, ◌+◌, Bool, true, false, List, [], ◌∷◌, ◌++◌, length}
+use Rattle.std.specs.Prelude.{◌≡◌, ℕ, ◌+◌, ◌≤◌, Bool, true, false, List, [], ◌∷◌, ◌++◌, length}
 use Rattle.file_messages.specs.declared.reader.FileReader.{FileReader}
 use Rattle.file_messages.specs.declared.reader.FileStep.{FileStep}
 use Rattle.file_messages.specs.declared.reader.FileStep.TheVariants.{Begins, Adds, Ends}
@@ -27,6 +27,17 @@ abbrev pub after : FileStep → List File → List File
 after (Begins name) files = files ++ (record { name = name.now; content = [] } ∷ [])
 after (Adds bytes) files = added bytes.now files
 after Ends files = files
+
+-- whether no message follows
+abbrev pub is_end : FileStep → Bool
+is_end (Begins name) = false
+is_end (Adds bytes) = false
+is_end Ends = true
+
+-- bytes are added where a file began
+abbrev pub IsBehind : FileStep → ℕ → Type 0
+IsBehind (Adds bytes) files = 1 ≤ files
+IsBehind step files = Unit {0}
 
 -- the step of a name, and of a piece
 abbrev pub IsBeginning : List ℕ → FileStep → Type 0

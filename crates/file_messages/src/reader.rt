@@ -1,8 +1,8 @@
 //! The reader of file messages.
 
-ghost use Rattle.std.specs.Prelude.{◌≡◌, ◌+◌, ◌++◌, ◌∷◌, [], ℕ, ◌≤◌, ◌<◌, List, Bool, is_ok, length, OnOk, OnErr, IfOk, IsTrue, ◌↔◌};
+ghost use Rattle.std.specs.Prelude.{◌≡◌, ◌+◌, ◌++◌, ◌∷◌, [], ℕ, ◌≤◌, ◌<◌, List, Bool, false, is_ok, length, OnOk, OnErr, IfOk, IsTrue, ◌↔◌};
 ghost use Rattle.file_messages.specs.Files.{Message, File, AreFiles, HaveCome, IsName, IsPiece};
-ghost use Rattle.file_messages.specs.Read.{HasRead, IsStep, IsBeginning, IsAdding, after, after_beginning};
+ghost use Rattle.file_messages.specs.Read.{HasRead, IsStep, IsBeginning, IsAdding, after, after_beginning, is_end, IsBehind};
 
 use crate::names::is_plain;
 
@@ -60,6 +60,9 @@ impl FileReader {
         ensures read { (messages : List Message) (files : List File) → HasRead self.old messages files → IfOk result (λ step. HasRead self.new (messages ++ message.entry.now ∷ []) (after step files)) }
         ensures refused { OnErr result ((messages : List Message) (files : List File) → HasRead self.old messages files → (ended : Bool) (others : List File) → ¬ HaveCome ended (messages ++ message.entry.now ∷ []) others) }
         ensures unchanged { OnErr result (self.new ≡ self.old) }
+        ensures going { OnOk result (self.old.is_ended ≡ false) }
+        ensures ended { IfOk result (λ step. self.new.is_ended ≡ is_end step) }
+        ensures behind { IfOk result (λ step. IsBehind step self.old.files) }
     {
         if self.is_ended {
             return Err(BadFileMessage);
