@@ -3,7 +3,7 @@
 //! apart from those crates, which are then proved once for their code and not a second time for
 //! their tests.
 //!
-//! Below it stand `mt_script`, `play_report`, `mt_world`, `mt_show`, `capture_check`, `mt_outside` and
+//! Below it stand `mt_script`, `play_report`, `channel_counts`, `mt_world`, `mt_show`, `capture_check`, `mt_outside` and
 //! `mt_base`. No crate stands on it.
 #![tactic(auto)]
 
