@@ -70,7 +70,7 @@ behind_whole owns later messages files contents few m good size =
       },
       paired_contents later contents size,
       map-append (λ (f : File). f.name) files others ∙ ap (λ t. t ++ map (λ (f : File). f.name) others) (ap (map (λ (f : File). f.name)) m.files_are ∙ names_of m.carried ∙ m.names_are)
-      ∙ ap (λ t. map (λ (own : Own). own.name) owns ++ t) (paired_names later contents size) ∙ sym (map-append (λ (own : Own). own.name) owns later),
+          ∙ ap (λ t. map (λ (own : Own). own.name) owns ++ t) (paired_names later contents size) ∙ sym (map-append (λ (own : Own). own.name) owns later),
     )
   where
     names_of : (cs : List Carried) → map (λ (f : File). f.name) (map file_of cs) ≡ map (λ (c : Carried). c.name) cs

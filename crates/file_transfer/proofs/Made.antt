@@ -58,7 +58,6 @@ over owns own at messages files w =
     let whole = closed owns own w.whole w.before w.last w.are_made w.name_is (w.is_name, full_alone w.last.pieces w.are_full) in
     subst (λ m. AreMade (owns ++ own ∷ []) m files) (sym w.messages_are) (subst (λ f. AreMade (owns ++ own ∷ []) (w.whole ++ messages_of w.last) f) (sym w.files_are) whole)
 
-
 -- ---- what the store tells
 
 pub held_length : (told : Option Contents) (owns : List Own) (contents : List (List ℕ)) → AreHeld told owns contents → length contents ≡ length owns
@@ -157,7 +156,7 @@ pub within_on : (owns : List Own) (made at n : ℕ) (told : Option Contents) (ow
     → ((content : List ℕ) → Holds told own.path content → piece ≡ take 65536 (drop at content))
     → (later : List File) × AreMadeWithin (take made owns) own (at + n) (sent ++ waiting draft) later
     × ((contents : List (List ℕ)) → AreHeld told owns contents → contents_of files ≡ take made contents ++ take at (slice_index_or contents made []) ∷ []
-        → contents_of later ≡ take made contents ++ take (at + n) (slice_index_or contents made []) ∷ [])
+    → contents_of later ≡ take made contents ++ take (at + n) (slice_index_or contents made []) ∷ [])
 within_on owns made at n told own rest draft sent files piece here w size full is tells =
     let some : 0 < length piece = omega (arith, size, full) in
     let all : length (concat (w.last.pieces ++ piece ∷ [])) ≡ at + n = ap length (concat_more w.last.pieces piece) ∙ length-append (concat w.last.pieces) piece ∙ ap (λ k. k + length piece) w.at_is ∙ ap (λ k. at + k) size in (
@@ -193,7 +192,7 @@ pub within_over : (owns : List Own) (made at n : ℕ) (told : Option Contents) (
     → ((content : List ℕ) → Holds told own.path content → piece ≡ take 65536 (drop at content))
     → (later : List File) × AreMade (take (made + 1) owns) (sent ++ waiting draft) later
     × ((contents : List (List ℕ)) → AreHeld told owns contents → contents_of files ≡ take made contents ++ take at (slice_index_or contents made []) ∷ []
-        → contents_of later ≡ take (made + 1) contents)
+    → contents_of later ≡ take (made + 1) contents)
 within_over owns made at n told own rest draft sent files [] here w size short is tells = (
   files,
   subst (λ m. AreMade (take (made + 1) owns) m files) (ap (λ d. sent ++ waiting d) (sym is)) (subst (λ o. AreMade o (sent ++ []) files) (sym (next_own owns made own rest here)) (over (take made owns) own at (sent ++ []) files w)),

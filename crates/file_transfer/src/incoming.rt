@@ -88,8 +88,8 @@ impl Incoming {
         ensures prefix { string_bytes (self.new).arrivals.prefix ≡ string_bytes (self.old).arrivals.prefix }
         ensures kept { (messages : List Message) (files : List File) → HasKept self.old messages files →
             OnOk result ((later : List File) × HasKept self.new (messages ++ message.now ∷ []) later
-                × ((first : Option Contents) → F.told store.old ≡ option_map (with_files (string_bytes (self.old).arrivals.prefix) files) first →
-                    F.told store.new ≡ option_map (with_files (string_bytes (self.old).arrivals.prefix) later) first)) }
+            × ((first : Option Contents) → F.told store.old ≡ option_map (with_files (string_bytes (self.old).arrivals.prefix) files) first →
+            F.told store.new ≡ option_map (with_files (string_bytes (self.old).arrivals.prefix) later) first)) }
         ensures bad { IsErrOf result KeepFault.BadMessage → (messages : List Message) (files : List File) → HasKept self.old messages files →
             (ended : Bool) (others : List File) → ¬ HaveCome ended (messages ++ message.now ∷ []) others }
     {
@@ -108,12 +108,7 @@ impl Incoming {
 
     /// Prints a line for each file that came, in order, with its name, its size and its SHA-256, and one that says `done`.
     /// The mark stands before each line. Where the sink fails, a beginning of the lines was written.
-    pub fn print<K: Sink>(
-        &self,
-        alloc: Global,
-        mark: &str,
-        out: &mut K,
-    ) -> Result<(), PrintFault>
+    pub fn print<K: Sink>(&self, alloc: Global, mark: &str, out: &mut K) -> Result<(), PrintFault>
         ensures never_falls { K.faults out.old ≤ K.faults out.new }
         ensures cause { IsErrOf result PrintFault.Failed → Rose (K.faults out.old) (K.faults out.new) }
         ensures counts { ¬ IsErrOf result PrintFault.Failed → K.faults out.new ≡ K.faults out.old }

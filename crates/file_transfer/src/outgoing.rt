@@ -119,7 +119,7 @@ impl Outgoing {
         ensures files { (self.new).files.items ≡ (self.old).files.items }
         ensures sent { (sent : List Message) (files : List File) → HasSent self.old sent files →
             OnOk result ((later : List File) × HasSent self.new sent later
-                × ((contents : List (List ℕ)) → AreHeld (F.told store.old) (self.old).files.items contents → Follow self.old contents files → Follow self.new contents later)) }
+            × ((contents : List (List ℕ)) → AreHeld (F.told store.old) (self.old).files.items contents → Follow self.old contents files → Follow self.new contents later)) }
         ensures ready { (sent : List Message) (files : List File) → HasSent self.old sent files →
             OnOk result ((self.new).draft ≡ None → (self.new).stage ≡ stage.Ended) }
         ensures goes { (sent : List Message) (files : List File) → HasSent self.old sent files → (self.old).draft ≡ None → (self.old).stage ≢ stage.Ended →
@@ -145,7 +145,7 @@ impl Outgoing {
         ensures files { (self.new).files.items ≡ (self.old).files.items }
         ensures sent { (sent : List Message) (files : List File) → HasSent self.old sent files →
             OnOk result ((later : List File) × HasSent self.new sent later
-                × ((contents : List (List ℕ)) → AreHeld (F.told store.old) (self.old).files.items contents → Follow self.old contents files → Follow self.new contents later)) }
+            × ((contents : List (List ℕ)) → AreHeld (F.told store.old) (self.old).files.items contents → Follow self.old contents files → Follow self.new contents later)) }
         ensures goes_on { (sent : List Message) (files : List File) → HasSent self.old sent files →
             OnOk result ((self.new).draft ≡ None → (self.new).stage ≢ stage.Within) }
         ensures goes { (sent : List Message) (files : List File) → HasSent self.old sent files → (self.old).stage ≡ stage.Within → OnOk result (to_do self.new < to_do self.old) }
@@ -181,7 +181,7 @@ impl Outgoing {
         ensures files { (self.new).files.items ≡ (self.old).files.items }
         ensures sent { (sent : List Message) (files : List File) → HasSent self.old sent files →
             ((later : List File) × HasSent self.new sent later
-                × ((told : Option Contents) (contents : List (List ℕ)) → AreHeld told (self.old).files.items contents → Follow self.old contents files → Follow self.new contents later)) }
+            × ((told : Option Contents) (contents : List (List ℕ)) → AreHeld told (self.old).files.items contents → Follow self.old contents files → Follow self.new contents later)) }
         ensures ready { ((self.old).draft ≡ None → (self.old).stage ≢ stage.Within) → (self.new).draft ≡ None → (self.new).stage ≡ stage.Ended }
         ensures goes { to_do self.new ≤ to_do self.old }
         ensures begins { (self.old).draft ≡ None → (self.old).stage ≡ stage.Between → to_do self.new < to_do self.old }

@@ -56,7 +56,10 @@ fn what_no_list_has_is_refused(rt: HostRuntime) -> Result<(), Fail> {
     let alloc = rt.alloc();
     let mut store = MemoryFiles::new(alloc, Vec::new(alloc));
     let mut incoming = Incoming::new(alloc, String::from_str(alloc, "in.")?);
-    assert_eq!(rt; incoming.read(b"Dx", &mut store), Err(KeepFault::BadMessage));
+    assert_eq!(rt;
+        incoming.read(b"Dx", &mut store),
+        Err(KeepFault::BadMessage)
+    );
     assert_eq!(rt; incoming.messages(), 0);
     assert!(rt; OwnFile::new(alloc, "a/").is_err());
     Ok(())

@@ -4,7 +4,6 @@ use Rattle.std.proofs.lemmas.List.{with_items_is}
 use Rattle.file_transfer.proofs.Pieces.{drafted_is, piece_length}
 use Rattle.file_transfer.proofs.draft.Draft.put_piece.Goals as goal
 
-
 pub returns-clause-piece : goal.returns-clause-piece
 returns-clause-piece g c =
     let room = c.read_piece.new.room in
