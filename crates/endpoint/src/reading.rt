@@ -85,6 +85,7 @@ impl<C: Carrier + Drop, P: Post + Drop> Endpoint<C, P> {
 
     /// The reliable link, where the tunnel has it.
     pub fn reliable(&self) -> Option<&C>
+        ensures value { option_map (λ link. link.now) result ≡ self.now.reliable }
         ensures called { (role : Role) (t : Trace Entry) → EndStands C.stands C.left C.condition P.stands P.left P.condition self.now role t → IfSome result (λ link. (is_attached Reliable (acts role t) ≡ true) × C.stands link.now (linked Reliable role t)) }
         ensures none { (role : Role) (t : Trace Entry) → EndStands C.stands C.left C.condition P.stands P.left P.condition self.now role t → IfNone result (is_attached Reliable (acts role t) ≡ false) }
     {

@@ -23,9 +23,9 @@ fn two_files(alloc: Global, first: &str, second: &str) -> Result<Vec<OwnFile>, P
 #[test]
 fn files_are_sent_and_kept(rt: HostRuntime) -> Result<(), Fail> {
     let alloc = rt.alloc();
-    let long = [7u8; 65_537];
+    let long = [7u8].as_slice().repeat(alloc, 65_537)?;
     let mut store = MemoryFiles::new(alloc, Vec::new(alloc));
-    store.put("a/long", &long)?;
+    store.put("a/long", long.as_slice())?;
     store.put("empty", b"")?;
     let mut outgoing = Outgoing::new(alloc, two_files(alloc, "a/long", "empty")?)?;
     let mut incoming = Incoming::new(alloc, String::from_str(alloc, "in.")?);
