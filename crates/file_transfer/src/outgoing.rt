@@ -208,6 +208,8 @@ impl Outgoing {
     pub fn is_done(&self) -> bool
         ensures whole { IsTrue result → (sent : List Message) (files : List File) → HasSent self.now sent files → AreWritten sent files × (map (λ (file : File). file.name) files ≡ map (λ (own : Own). own.name) (self.now).files.items) }
         ensures contents { IsTrue result → (contents : List (List ℕ)) (files : List File) → Follow self.now contents files → contents_of files ≡ contents }
+        ensures ended { result ≡ true → ((self.now).stage ≡ stage.Ended) × ((self.now).draft ≡ None) }
+        ensures going { result ≡ false → (self.now).draft ≡ None → (self.now).stage ≢ stage.Ended }
     {
         match self.stage {
             Stage::Ended => !self.draft.is_made(),

@@ -1,0 +1,6 @@
+mod Apart
+mod Created
+mod Growing
+mod LawsKept
+mod Taken
+mod Waiting

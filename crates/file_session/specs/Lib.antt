@@ -1,0 +1,5 @@
+pub mod Attaching
+pub mod Messages
+pub mod Opening
+pub mod Sending
+pub mod Taking
